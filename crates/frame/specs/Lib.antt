@@ -1,0 +1,5 @@
+pub mod Field
+pub mod FirstByte
+pub mod Length
+pub mod Number
+pub mod Parts
