@@ -1,0 +1,4 @@
+pub mod Types
+pub mod Dissect
+pub mod Command
+pub mod Answer
