@@ -1,0 +1,4 @@
+pub mod Text
+pub mod Levels
+pub mod Names
+pub mod Qos

@@ -1,0 +1,26 @@
+-- The quality of service.
+use mathlib.Core.Bool.{Bool, cond}
+use Prim.Native.Nat.{ℕ}
+use lib.Dec.{eqb, leb}
+use Rattle.std.specs.declared.option.Option.{Option}
+use Rattle.std.specs.declared.option.Option.the-variants.{Some, None}
+use Rattle.topics.specs.declared.qos.Qos.{Qos}
+use Rattle.topics.specs.declared.qos.Qos.the-variants.{AtMostOnce, AtLeastOnce, ExactlyOnce}
+
+-- the number that stands for it in packets and rows
+abbrev pub qosNumber : Qos → ℕ
+qosNumber AtMostOnce = 0
+qosNumber AtLeastOnce = 1
+qosNumber ExactlyOnce = 2
+
+-- the one with this number; numbers above 2 stand for none
+abbrev pub qosOf : ℕ → Option Qos
+qosOf n = cond (eqb n 0) (Some AtMostOnce) (cond (eqb n 1) (Some AtLeastOnce) (cond (eqb n 2) (Some ExactlyOnce) None))
+
+-- the one of two with the lesser number
+abbrev pub lesser : Qos → Qos → Qos
+lesser p q = cond (leb (qosNumber p) (qosNumber q)) p q
+
+-- the one of two with the greater number
+abbrev pub greater : Qos → Qos → Qos
+greater p q = cond (leb (qosNumber p) (qosNumber q)) q p

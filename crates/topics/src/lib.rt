@@ -1,0 +1,5 @@
+// Texts, topic names, topic filters and their matching, and the quality of service that filters grant.
+pub mod levels;
+pub mod names;
+pub mod qos;
+pub mod text;
