@@ -19,6 +19,10 @@ first-level (b ∷ bs) =
       | false ↦ (b ∷ next .0, next .1, ap (inFront b) (next .2))
     ]
 
+-- what holds of every list with a first level holds of the levels of a text
+pub at-levels : (P : List (List ℕ) → Type 0) (bs : List ℕ) → ((l : List ℕ) (ls : List (List ℕ)) → P (l ∷ ls)) → P (levels bs)
+at-levels P bs h = let next = first-level bs in subst P (sym (next .2)) (h (next .0) (next .1))
+
 -- a slash ends a level
 pub at-slash : (b : ℕ) (bs : List ℕ) → b ≡ 47 → levels (b ∷ bs) ≡ [] ∷ levels bs
 at-slash b bs e = cond-true (eqb b 47) _ _ (eq-eqb b 47 e)
@@ -44,7 +48,7 @@ in-front : (b : ℕ) (l : List ℕ) (ls : List (List ℕ)) → withSlashes ((b �
 in-front b l [] = refl
 in-front b l (m ∷ ls) = refl
 
-rejoined : (bs : List ℕ) → withSlashes (levels bs) ≡ bs
+pub rejoined : (bs : List ℕ) → withSlashes (levels bs) ≡ bs
 rejoined [] = refl
 rejoined (b ∷ bs) =
     let next = first-level bs in

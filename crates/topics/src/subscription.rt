@@ -1,0 +1,1 @@
+// What subscriptions grant a topic.
