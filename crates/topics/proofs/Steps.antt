@@ -251,7 +251,7 @@ takes-short s [] (t ∷ ts) n p q = nil-by t ts (eqb t 47) refl ∙ inside s [] 
 takes-short s (f ∷ fs) ts n p q = absurd (omega arith)
 
 -- "#" as the only level is the text "#"
-is-hash : (l : List ℕ) → isHash l ≡ true → l ≡ 35 ∷ []
+pub is-hash : (l : List ℕ) → isHash l ≡ true → l ≡ 35 ∷ []
 is-hash [] e = absurd (both-ways false refl e)
 is-hash (b ∷ []) e = ap (λ x. x ∷ []) (eqb-true b 35 e)
 is-hash (b ∷ c ∷ l) e = absurd (both-ways false refl e)

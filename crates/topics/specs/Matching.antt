@@ -83,7 +83,7 @@ lastIsHash (l ∷ m ∷ ls) = lastIsHash (m ∷ ls)
 abbrev pub BelowLaw : Type 0
 BelowLaw =
     (f t : List ℕ) → lastIsHash (levels f) ≡ false → takes f t ≡ true
-    → (takes (f ++ codes "/#") t ≡ true) × ((u : List ℕ) → takes (f ++ codes "/#") (t ++ codes "/" ++ u) ≡ true)
+    → (takes (f ++ codes "/#") t ≡ true) × ((u : List ℕ) → takes (f ++ codes "/#") (t ++ 47 ∷ u) ≡ true)
 
 -- a filter that does not end in "#" takes only topics with as many levels; so "+" takes exactly what has no '/'
 pub record CountLaw : Type 0 where

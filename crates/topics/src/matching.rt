@@ -80,3 +80,33 @@ fn past_level(bytes: &[u8]) -> &[u8]
         [_, rest @ ..] => past_level(rest),
     }
 }
+
+/// A filter takes a topic exactly when each of its levels takes one of the topic's, or all but a last # take the first ones.
+pub fn matching_law()
+    ensures law { λ _. ⌜ MatchingLaw ⌝ }
+{}
+
+/// The filter # takes every topic.
+pub fn hash_law()
+    ensures law { λ _. ⌜ HashLaw ⌝ }
+{}
+
+/// A filter without wildcards takes exactly itself.
+pub fn plain_law()
+    ensures law { λ _. ⌜ PlainLaw ⌝ }
+{}
+
+/// What a filter takes, the same filter with /# takes too, and everything below.
+pub fn below_law()
+    ensures law { λ _. ⌜ BelowLaw ⌝ }
+{}
+
+/// A filter that does not end in # takes only topics with as many levels.
+pub fn count_law()
+    ensures law { λ _. ⌜ CountLaw ⌝ }
+{}
+
+/// The examples by which the rule is taught.
+pub fn matching_examples()
+    ensures examples { λ _. ⌜ Examples ⌝ }
+{}
