@@ -125,7 +125,7 @@ plain-cut b bs e h false d =
     subst (All (λ l. plain l ≡ true)) (sym (at-byte b bs (eqb-false b 47 d)))
     (at-levels (λ ls. All (λ l. plain l ≡ true) ls → All (λ l. plain l ≡ true) (inFront b ls)) bs (λ l ls k. (and-from (not (wildcard b)) (plain l) first (k .0), k .1)) h)
 
-plain-levels : (bs : List ℕ) → plain bs ≡ true → All (λ l. plain l ≡ true) (levels bs)
+pub plain-levels : (bs : List ℕ) → plain bs ≡ true → All (λ l. plain l ≡ true) (levels bs)
 plain-levels [] e = (refl, tt)
 plain-levels (b ∷ bs) e = plain-cut b bs e (plain-levels bs (and-parts (not (wildcard b)) (plain bs) e .1)) (eqb b 47) refl
 

@@ -5,3 +5,5 @@ pub mod Wildcards
 pub mod Steps
 pub mod Grants
 pub mod Laws
+pub mod NameFacts
+pub mod Qualities

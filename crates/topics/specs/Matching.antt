@@ -30,24 +30,6 @@ takesLevels (f ∷ fs) (t ∷ ts) = isHash f && isEnd fs || takesLevel f t && ta
 unfoldable pub takes : List ℕ → List ℕ → Bool
 takes f t = takesLevels (levels f) (levels t)
 
--- the same from a level's start on, or from within a level on that agrees so far
-abbrev pub takesFrom : Bool → List (List ℕ) → List (List ℕ) → Bool
-takesFrom true fs ts = takesLevels fs ts
-takesFrom false [] ts = false
-takesFrom false (f ∷ fs) [] = false
-takesFrom false (f ∷ fs) (t ∷ ts) = sameBytes f t && takesLevels fs ts
-
--- the kind of a filter's first level: "#" as the last level, "+", or plain; from within a level on it is plain
-abbrev pub levelAt : Bool → List (List ℕ) → Level
-levelAt false ls = Plain
-levelAt true [] = Plain
-levelAt true (l ∷ ls) = cond (isHash l && isEnd ls) Hash (cond (isPlus l) Plus Plain)
-
--- what is left once the first level is taken
-abbrev pub pastLevel : List ℕ → List ℕ
-pastLevel [] = []
-pastLevel (b ∷ bs) = cond (eqb b 47) (b ∷ bs) (pastLevel bs)
-
 -- a level of a filter takes a level of a topic
 abbrev pub TakesLevel : List ℕ → List ℕ → Type 0
 TakesLevel f t = (isPlus f ≡ true) ⊎ (f ≡ t)
@@ -96,3 +78,23 @@ pub record Examples : Type 0 where
   pub wanting : takes (codes "a/+") (codes "a") ≡ false
   pub empty : takes (codes "a/+") (codes "a/") ≡ true
   pub two : takes (codes "+") (codes "/a") ≡ false
+
+-- ---- words of private functions, on which nothing above stands
+
+-- the same from a level's start on, or from within a level on that agrees so far
+abbrev pub takesFrom : Bool → List (List ℕ) → List (List ℕ) → Bool
+takesFrom true fs ts = takesLevels fs ts
+takesFrom false [] ts = false
+takesFrom false (f ∷ fs) [] = false
+takesFrom false (f ∷ fs) (t ∷ ts) = sameBytes f t && takesLevels fs ts
+
+-- the kind of a filter's first level: "#" as the last level, "+", or plain; from within a level on it is plain
+abbrev pub levelAt : Bool → List (List ℕ) → Level
+levelAt false ls = Plain
+levelAt true [] = Plain
+levelAt true (l ∷ ls) = cond (isHash l && isEnd ls) Hash (cond (isPlus l) Plus Plain)
+
+-- what is left once the first level is taken
+abbrev pub pastLevel : List ℕ → List ℕ
+pastLevel [] = []
+pastLevel (b ∷ bs) = cond (eqb b 47) (b ∷ bs) (pastLevel bs)

@@ -53,17 +53,6 @@ abbrev pub lawful : List (List ℕ) → Bool
 lawful [] = true
 lawful (l ∷ ls) = (isPlus l || (isHash l && isEnd ls) || plain l) && lawful ls
 
--- the same from within a level on that is no wildcard so far, or from a level's start
-abbrev pub lawfulFrom : Bool → List (List ℕ) → Bool
-lawfulFrom true ls = lawful ls
-lawfulFrom false [] = true
-lawfulFrom false (l ∷ ls) = plain l && lawful ls
-
--- the place of the first wildcard, or none where there is none
-abbrev pub FirstWildcard : List ℕ → Option ℕ → Type 0
-FirstWildcard bs None = plain bs ≡ true
-FirstWildcard bs (Some i) = (i < length bs) × (wildcard (getD bs i 0) ≡ true) × (plain (take i bs) ≡ true)
-
 -- a topic name: 1 to 64 bytes, text, without wildcards
 unfoldable pub isTopicName : List ℕ → Bool
 isTopicName bs = sized maxTopic bs && isText bs && plain bs
@@ -75,3 +64,21 @@ isTopicFilter bs = sized maxTopic bs && isText bs && lawful (levels bs)
 -- a client identifier: 1 to 23 bytes of 0-9, A-Z and a-z
 unfoldable pub isClientId : List ℕ → Bool
 isClientId bs = sized maxClientId bs && every asciiAlnum bs
+
+-- a client identifier is text, and every topic name is a topic filter
+pub record NamesLaw : Type 0 where
+  pub clients : (bs : List ℕ) → isClientId bs ≡ true → isText bs ≡ true
+  pub topics : (bs : List ℕ) → isTopicName bs ≡ true → isTopicFilter bs ≡ true
+
+-- ---- words of private functions, on which nothing above stands
+
+-- the same from within a level on that is no wildcard so far, or from a level's start
+abbrev pub lawfulFrom : Bool → List (List ℕ) → Bool
+lawfulFrom true ls = lawful ls
+lawfulFrom false [] = true
+lawfulFrom false (l ∷ ls) = plain l && lawful ls
+
+-- the place of the first wildcard, or none where there is none
+abbrev pub FirstWildcard : List ℕ → Option ℕ → Type 0
+FirstWildcard bs None = plain bs ≡ true
+FirstWildcard bs (Some i) = (i < length bs) × (wildcard (getD bs i 0) ≡ true) × (plain (take i bs) ≡ true)

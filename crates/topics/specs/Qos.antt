@@ -1,6 +1,7 @@
 -- The quality of service.
 use mathlib.Core.Bool.{Bool, cond}
-use Prim.Native.Nat.{ℕ}
+use mathlib.Core.Path.{_≡_}
+use Prim.Native.Nat.{ℕ, min, max}
 use lib.Dec.{eqb, leb}
 use Rattle.std.specs.declared.option.Option.{Option}
 use Rattle.std.specs.declared.option.Option.the-variants.{Some, None}
@@ -24,3 +25,10 @@ lesser p q = cond (leb (qosNumber p) (qosNumber q)) p q
 -- the one of two with the greater number
 abbrev pub greater : Qos → Qos → Qos
 greater p q = cond (leb (qosNumber p) (qosNumber q)) q p
+
+-- numbers and qualities of service stand for each other, and the lesser and the greater go by number
+pub record QosLaw : Type 0 where
+  pub there : (q : Qos) → qosOf (qosNumber q) ≡ Some q
+  pub back : (n : ℕ) (q : Qos) → qosOf n ≡ Some q → n ≡ qosNumber q
+  pub least : (p q : Qos) → qosNumber (lesser p q) ≡ min (qosNumber p) (qosNumber q)
+  pub most : (p q : Qos) → qosNumber (greater p q) ≡ max (qosNumber p) (qosNumber q)

@@ -3,7 +3,7 @@ ghost use mathlib.Core.Bool.{Bool};
 ghost use mathlib.Core.Path.{_≡_};
 ghost use Rattle.std.specs.Text.{asciiAlnum};
 ghost use Rattle.topics.specs.Levels.{levels};
-ghost use Rattle.topics.specs.Names.{FirstWildcard, isClientId, isTopicFilter, isTopicName, lawfulFrom, sized, wildcard};
+ghost use Rattle.topics.specs.Names.{FirstWildcard, NamesLaw, isClientId, isTopicFilter, isTopicName, lawfulFrom, sized, wildcard};
 ghost use Rattle.topics.specs.Text.{every};
 use crate::text::is_text;
 
@@ -33,6 +33,11 @@ pub fn is_client_identifier(bytes: &[u8]) -> bool
 {
     is_sized(bytes, MAX_CLIENT_ID) && is_alphanumeric(bytes)
 }
+
+/// A client identifier is text, and a topic name is a topic filter.
+pub fn names_law()
+    ensures law { λ _. ⌜ NamesLaw ⌝ }
+{}
 
 fn is_sized(bytes: &[u8], most: usize) -> bool
     ensures answer { λ r. ⌜ r ≡ sized most (now (bytes .entry)) ⌝ }

@@ -1,6 +1,6 @@
 // The quality of service of a message or a subscription.
 ghost use mathlib.Core.Path.{_≡_};
-ghost use Rattle.topics.specs.Qos.{greater, lesser, qosNumber, qosOf};
+ghost use Rattle.topics.specs.Qos.{QosLaw, greater, lesser, qosNumber, qosOf};
 
 /// How often a message may arrive: at most once (0), at least once (1), exactly once (2).
 #[derive(Clone, Copy, Debug, PartialEq, Eq)]
@@ -56,3 +56,8 @@ impl Qos {
         }
     }
 }
+
+/// Each number up to 2 stands for one quality of service, and lesser and greater go by these numbers.
+pub fn qos_law()
+    ensures law { λ _. ⌜ QosLaw ⌝ }
+{}
