@@ -1,10 +1,9 @@
 -- The laws of matching.
 use mathlib.Core.Path.{_≡_, refl, sym, ap, subst, _∙_}
-use mathlib.Core.Bool.{Bool, true, false, cond, not, _&&_, _||_}
+use mathlib.Core.Bool.{Bool, true, false, not, _&&_}
 use mathlib.Core.List.{List, [], _∷_, _++_}
 use mathlib.Core.Logic.{_⊎_, inl, inr}
 use Prim.Native.Nat.{ℕ, suc}
-use native.Mathlib.Omega.{arith}
 use lib.Dec.{eqb}
 use lib.ListN.{length, drop}
 use Rattle.std.proofs.shelf.Lists.{append-nil}
@@ -12,12 +11,11 @@ use Rattle.std.specs.Orderings.{Decides}
 use Rattle.std.specs.shelf.Lists.{All, Each}
 use Rattle.std.specs.shelf.Text.{sameBytes}
 use Rattle.std.proofs.shelf.Equals.{sameBytes-decides}
-use Rattle.std.proofs.shelf.Tests.{and-from, and-parts, and-cases, and-left, or-cases, or-left, or-right, or-from, or-parts, both-ways, not-true, not-from-true, eqb-true, eqb-false, cases-bool}
-use Rattle.topics.specs.Text.{every}
+use Rattle.std.proofs.shelf.Tests.{and-from, and-parts, or-cases, or-left, or-right, or-parts, both-ways, not-true, eqb-true, eqb-false}
 use Rattle.topics.specs.Levels.{levels, inFront, unslashed, withSlashes}
 use Rattle.topics.specs.Names.{isEnd, isHash, isPlus, plain, wildcard}
 use Rattle.topics.specs.Matching.{BelowLaw, CountLaw, Examples, HashLaw, MatchingLaw, PlainLaw, TakesLevel, TakesRest, lastIsHash, takes, takesLevel, takesLevels}
-use Rattle.topics.proofs.Cuts.{first-level, at-levels, at-slash, at-byte, rejoined}
+use Rattle.topics.proofs.Cuts.{at-levels, at-slash, at-byte, rejoined}
 use Rattle.topics.proofs.Steps.{is-hash}
 
 -- ---- one level
@@ -30,20 +28,11 @@ level-takes f t = (
 
 -- ---- the definition by a relation
 
--- the levels of a filter end in "#", and those before it take the first of the topic's
-record Front (fs ts : List (List ℕ)) : Type 0 where
-  before : List (List ℕ)
-  first : List (List ℕ)
-  rest : List (List ℕ)
-  filter : fs ≡ before ++ (35 ∷ []) ∷ []
-  topic : ts ≡ first ++ rest
-  each : Each TakesLevel before first
-
-at-hash : (f : List ℕ) (fs ts : List (List ℕ)) → (isHash f && isEnd fs) ≡ true → Front (f ∷ fs) ts
+at-hash : (f : List ℕ) (fs ts : List (List ℕ)) → (isHash f && isEnd fs) ≡ true → TakesRest (f ∷ fs) ts
 at-hash f [] ts e = record { before = []; first = []; rest = ts; filter = ap (λ l. l ∷ []) (is-hash f (and-parts (isHash f) true e .0)); topic = refl; each = tt }
 at-hash f (g ∷ fs) ts e = absurd (both-ways false refl (and-parts (isHash f) false e .1))
 
-further : (f t : List ℕ) (fs ts : List (List ℕ)) → TakesLevel f t → Front fs ts → Front (f ∷ fs) (t ∷ ts)
+further : (f t : List ℕ) (fs ts : List (List ℕ)) → TakesLevel f t → TakesRest fs ts → TakesRest (f ∷ fs) (t ∷ ts)
 further f t fs ts l h =
     record {
       before = f ∷ h .before;
@@ -54,7 +43,7 @@ further f t fs ts l h =
       each = (l, h .each);
     }
 
-by-level : (fs ts : List (List ℕ)) → takesLevels fs ts ≡ true → Each TakesLevel fs ts ⊎ Front fs ts
+by-level : (fs ts : List (List ℕ)) → takesLevels fs ts ≡ true → Each TakesLevel fs ts ⊎ TakesRest fs ts
 by-level [] [] e = inl tt
 by-level [] (t ∷ ts) e = absurd (both-ways false refl e)
 by-level (f ∷ fs) [] e = inr (at-hash f fs [] e)
@@ -89,11 +78,7 @@ front-takes (f ∷ fs) (t ∷ ts) rest h =
 pub matching-law : MatchingLaw
 unfolding takes
 matching-law f t = (
-  λ e.
-      elim (by-level (levels f) (levels t) e) [
-        | inl h ↦ inl h
-        | inr h ↦ inr (record { before = h .before; first = h .first; rest = h .rest; filter = h .filter; topic = h .topic; each = h .each })
-      ],
+  by-level (levels f) (levels t),
   λ r.
       elim r [
         | inl h ↦ all-take (levels f) (levels t) h

@@ -1,14 +1,13 @@
 -- What a topic name, a topic filter and a client identifier have in common.
 use mathlib.Core.Path.{_≡_, refl, sym, ap, _∙_}
-use mathlib.Core.Bool.{Bool, true, false, not, _&&_, _||_}
+use mathlib.Core.Bool.{true, _&&_, _||_}
 use mathlib.Core.List.{List, [], _∷_}
 use Prim.Native.Nat.{ℕ, zero, suc, _<_, _≤_}
 use native.Mathlib.Omega.{arith}
 use lib.Dec.{eqb, leb, ltb}
-use lib.ListN.{length, getD}
+use lib.ListN.{length}
 use Rattle.std.specs.shelf.Lists.{All}
 use Rattle.std.specs.Text.{Ascii, asciiAlnum}
-use Rattle.std.specs.shelf.Text.{decodes}
 use Rattle.std.proofs.shelf.Tests.{and-from, and-parts, or-right, ltb-true, leb-true, ne-eqb, not-from-false}
 use Rattle.std.proofs.shelf.Text.{decodes-ascii, utf8-from-ascii}
 use Rattle.std.proofs.shelf.Ways.{tells}

@@ -1,16 +1,14 @@
 -- Matching by the first bytes of filter and topic, in the words of a slice pattern.
-use mathlib.Core.Path.{_≡_, refl, sym, ap, subst, _∙_}
+use mathlib.Core.Path.{_≡_, refl, sym, ap, _∙_}
 use mathlib.Core.Bool.{Bool, true, false, cond, not, _&&_, _||_}
 use mathlib.Core.List.{List, [], _∷_}
-use mathlib.Core.Logic.{_⊎_, inl, inr}
 use Prim.Native.Nat.{ℕ, _<_, _≤_}
 use native.Mathlib.Omega.{arith}
 use lib.Dec.{eqb}
 use lib.ListN.{length, drop, getD}
 use Rattle.std.specs.shelf.Text.{sameBytes}
 use Rattle.std.proofs.shelf.Lists.{take-rest}
-use Rattle.std.proofs.shelf.Tests.{eq-eqb, ne-eqb, eqb-true, eqb-false, and-parts, or-cases, or-parts, both-ways}
-use Rattle.topics.specs.declared.matching.Level.{Level}
+use Rattle.std.proofs.shelf.Tests.{eq-eqb, ne-eqb, eqb-true, eqb-false, and-parts, both-ways}
 use Rattle.topics.specs.declared.matching.Level.the-variants.{Plus, Hash, Plain}
 use Rattle.topics.specs.Levels.{levels, inFront, withSlashes}
 use Rattle.topics.specs.Names.{isPlus, isHash, isEnd}
@@ -111,11 +109,6 @@ level-plain (f ∷ g ∷ fs) h p s = plain-more f g fs (s (omega arith)) (eqb f 
 
 -- ---- what each kind takes
 
-hash-only : (v w : Bool) → Hash ≡ cond v Hash (cond w Plus Plain) → v ≡ true
-hash-only true w e = refl
-hash-only false true e = absurd (let z : _≡_ {A = ℕ} 0 1 = cc in omega arith)
-hash-only false false e = absurd (let z : _≡_ {A = ℕ} 0 1 = cc in omega arith)
-
 plus-only : (v w : Bool) → Plus ≡ cond v Hash (cond w Plus Plain) → (v ≡ false) × (w ≡ true)
 plus-only true w e = absurd (let z : _≡_ {A = ℕ} 0 1 = cc in omega arith)
 plus-only false true e = (refl, refl)
@@ -125,16 +118,6 @@ plain-only : (v w : Bool) → Plain ≡ cond v Hash (cond w Plus Plain) → (v �
 plain-only true w e = absurd (let z : _≡_ {A = ℕ} 0 1 = cc in omega arith)
 plain-only false true e = absurd (let z : _≡_ {A = ℕ} 0 1 = cc in omega arith)
 plain-only false false e = (refl, refl)
-
-hash-takes : (s : Bool) (l : List ℕ) (ls : List (List ℕ)) (m : List ℕ) (ms : List (List ℕ)) → Hash ≡ levelAt s (l ∷ ls) → true ≡ takesFrom s (l ∷ ls) (m ∷ ms)
-hash-takes true l ls m ms e =
-    sym (ap (λ v. v || takesLevel l m && takesLevels ls ms) (hash-only (isHash l && isEnd ls) (isPlus l) e))
-hash-takes false l ls m ms e = absurd (let z : _≡_ {A = ℕ} 0 1 = cc in omega arith)
-
-pub takes-hash : (s : Bool) (fs ts : List ℕ) → Hash ≡ levelAt s (levels fs) → true ≡ takesFrom s (levels fs) (levels ts)
-takes-hash s fs ts =
-    at-levels (λ f. Hash ≡ levelAt s f → true ≡ takesFrom s f (levels ts)) fs (λ l ls.
-    at-levels (λ t. Hash ≡ levelAt s (l ∷ ls) → true ≡ takesFrom s (l ∷ ls) t) ts (hash-takes s l ls))
 
 plus-takes : (s : Bool) (l : List ℕ) (ls : List (List ℕ)) (m : List ℕ) (ms : List (List ℕ)) → Plus ≡ levelAt s (l ∷ ls) → takesLevels ls ms ≡ takesFrom s (l ∷ ls) (m ∷ ms)
 plus-takes true l ls m ms e =

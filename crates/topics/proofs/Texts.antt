@@ -1,16 +1,15 @@
 -- The text rule as a test, and its characters one by one.
-use mathlib.Core.Path.{_≡_, refl, sym, ap, subst, _∙_}
-use mathlib.Core.Bool.{Bool, true, false, _&&_}
-use mathlib.Core.List.{List, [], _∷_, _++_}
+use mathlib.Core.Path.{_≡_, refl, sym, ap, _∙_}
+use mathlib.Core.Bool.{true, false, _&&_}
+use mathlib.Core.List.{List, [], _++_}
 use Prim.Native.Nat.{ℕ}
 use lib.Utf8.{encode, encodes, scalars}
-use Rattle.std.specs.Orderings.{Decides}
 use Rattle.std.specs.Text.{Utf8}
 use Rattle.std.specs.shelf.Text.{decodes, sameBytes}
 use Rattle.std.proofs.shelf.Equals.{sameBytes-decides}
-use Rattle.std.proofs.shelf.Tests.{and-parts, and-from, and-left, cases-bool}
+use Rattle.std.proofs.shelf.Tests.{and-parts, and-from}
 use Rattle.std.proofs.shelf.Text.{encodes-decodes, scalars-decodes, decodes-past-char, decodes-from-encodes}
-use Rattle.topics.specs.Text.{TextLaw, Spells, allowed, every, isText, wellFormed}
+use Rattle.topics.specs.Text.{TextLaw, allowed, every, isText, wellFormed}
 
 pub well-formed : (bs : List ℕ) → Utf8 bs → wellFormed bs ≡ true
 unfolding wellFormed

@@ -1,6 +1,6 @@
 -- Where wildcards stand: the first bytes of a filter, in the words of a slice pattern, decide on its levels.
 use mathlib.Core.Path.{_≡_, refl, sym, ap, subst, _∙_}
-use mathlib.Core.Bool.{Bool, true, false, cond, not, _&&_, _||_}
+use mathlib.Core.Bool.{Bool, true, false, not, _&&_}
 use mathlib.Core.List.{List, [], _∷_}
 use mathlib.Core.Logic.{inl, inr}
 use Prim.Native.Nat.{ℕ, _-_, _<_}
@@ -13,7 +13,7 @@ use Rattle.std.specs.declared.option.Option.the-variants.{Some, None}
 use Rattle.std.proofs.shelf.Lists.{take-rest}
 use Rattle.std.proofs.shelf.Tests.{eqb-true, eqb-false, not-true, not-false, not-from-true, or-cases, or-parts}
 use Rattle.topics.specs.Levels.{levels, inFront}
-use Rattle.topics.specs.Names.{FirstWildcard, isPlus, isHash, isEnd, lawful, lawfulFrom, plain, wildcard}
+use Rattle.topics.specs.Names.{FirstWildcard, lawful, lawfulFrom, plain, wildcard}
 use Rattle.topics.proofs.Bytes.{every-not}
 use Rattle.topics.proofs.Cuts.{first-level, at-byte}
 

@@ -34,18 +34,18 @@ takes f t = takesLevels (levels f) (levels t)
 abbrev pub TakesLevel : List ℕ → List ℕ → Type 0
 TakesLevel f t = (isPlus f ≡ true) ⊎ (f ≡ t)
 
--- the filter ends in a level "#", and the levels before it take the first levels of the topic, be it all
-pub record TakesRest (f t : List ℕ) : Type 0 where
+-- the levels of the filter end in "#", and those before it take the first ones of the topic, be it all
+pub record TakesRest (fs ts : List (List ℕ)) : Type 0 where
   pub before : List (List ℕ)
   pub first : List (List ℕ)
   pub rest : List (List ℕ)
-  pub filter : levels f ≡ before ++ (35 ∷ []) ∷ []
-  pub topic : levels t ≡ first ++ rest
+  pub filter : fs ≡ before ++ codes "#" ∷ []
+  pub topic : ts ≡ first ++ rest
   pub each : Each TakesLevel before first
 
 -- a filter takes a topic exactly when each of its levels takes one, or all but its last, "#", take the first ones
 abbrev pub MatchingLaw : Type 0
-MatchingLaw = (f t : List ℕ) → Decides (takes f t) (Each TakesLevel (levels f) (levels t) ⊎ TakesRest f t)
+MatchingLaw = (f t : List ℕ) → Decides (takes f t) (Each TakesLevel (levels f) (levels t) ⊎ TakesRest (levels f) (levels t))
 
 -- "#" takes every topic
 abbrev pub HashLaw : Type 0

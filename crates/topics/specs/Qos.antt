@@ -1,5 +1,5 @@
 -- The quality of service.
-use mathlib.Core.Bool.{Bool, cond}
+use mathlib.Core.Bool.{cond}
 use mathlib.Core.Path.{_≡_}
 use Prim.Native.Nat.{ℕ, min, max}
 use lib.Dec.{eqb, leb}
@@ -24,7 +24,7 @@ lesser p q = cond (leb (qosNumber p) (qosNumber q)) p q
 
 -- the one of two with the greater number
 abbrev pub greater : Qos → Qos → Qos
-greater p q = cond (leb (qosNumber p) (qosNumber q)) q p
+greater p q = cond (leb (qosNumber q) (qosNumber p)) p q
 
 -- numbers and qualities of service stand for each other, and the lesser and the greater go by number
 pub record QosLaw : Type 0 where

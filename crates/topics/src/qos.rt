@@ -49,10 +49,10 @@ impl Qos {
     pub fn greater(self, other: Qos) -> Qos
         ensures answer { λ r. ⌜ r ≡ greater self other ⌝ }
     {
-        if self.number() <= other.number() {
-            other
-        } else {
+        if self.number() >= other.number() {
             self
+        } else {
+            other
         }
     }
 }

@@ -1,8 +1,8 @@
-use mathlib.Core.Path.{sym, ap, _∙_}
+use mathlib.Core.Path.{_∙_}
 use native.Mathlib.Omega.{arith}
 use borrow.Author.Needs.{needs}
 use borrow.Author.Tests.{ltb-true, ltb-false}
-use Rattle.topics.proofs.Steps.{past-empty, past-slash, past-byte, length-past}
+use Rattle.topics.proofs.Steps.{past-empty, past-slash, past-byte}
 use Rattle.topics.proofs.matching.+past_level.Needs as need
 
 pub returns-in-len1-up : need.returns-in-len1-up

@@ -1,6 +1,6 @@
-use mathlib.Core.Path.{sym, ap, _∙_}
+use mathlib.Core.Path.{ap, _∙_}
 use mathlib.Core.Bool.{false}
-use Prim.Native.Nat.{_<_, _≤_}
+use Prim.Native.Nat.{_<_}
 use native.Mathlib.Omega.{arith}
 use lib.ListN.{length}
 use borrow.Author.Needs.{needs}
@@ -8,7 +8,7 @@ use borrow.Author.Tests.{ltb-true, ltb-false}
 use Rattle.std.proofs.shelf.Tests.{ne-eqb}
 use Rattle.topics.specs.Levels.{levels}
 use Rattle.topics.specs.Matching.{pastLevel, takesFrom}
-use Rattle.topics.proofs.Steps.{length-past, length-past-plus, takes-plus, takes-step, takes-apart, takes-short, takes-end}
+use Rattle.topics.proofs.Steps.{length-past-plus, takes-plus, takes-step, takes-apart, takes-short, takes-end}
 use Rattle.topics.proofs.matching.+takes_from.Needs as need
 
 pub takes-from-requires : need.takes-from-requires

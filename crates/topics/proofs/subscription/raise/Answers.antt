@@ -1,4 +1,3 @@
-use mathlib.Core.Path.{sym, ap, _∙_}
 use borrow.Author.Needs.{needs}
 use Rattle.topics.specs.Subscription.{raised}
 use Rattle.topics.proofs.subscription.raise.Needs as need
