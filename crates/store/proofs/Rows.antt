@@ -8,7 +8,7 @@ use native.Mathlib.Omega.{arith}
 use lib.Dec.{ltb, leb, eqb}
 use lib.ListN.{length, drop, set, take}
 use Rattle.std.proofs.shelf.Lists.{set-append-left, take-at, length-set}
-use Rattle.std.proofs.shelf.Tests.{cases-lt, cases-eq}
+use Rattle.std.proofs.shelf.Tests.{cases-lt, cases-eq, lt-ltb, le-leb}
 use Rattle.std.proofs.shelf.Ways.{tells}
 use Rattle.std.specs.Orderings.{Decides}
 use Rattle.std.specs.Results.{isOk}
@@ -43,6 +43,10 @@ with-row-here rows k n row = grind (arith, tells, same-kind-refl k)
 -- what a load that answered says
 pub loaded : (d : Disk) (k : Kind) (n : ℕ) (buffer : List ℕ) (len : ℕ) → Ok len ≡ loadAnswer d k n buffer → (n < d .limit k) × (len ≡ length (d .rows k n))
 loaded d k n buffer len e = (grind (arith, tells), grind (arith, tells))
+
+-- what a load of a good key into a long enough buffer answers
+pub load-ok : (d : Disk) (k : Kind) (n : ℕ) (buffer : List ℕ) (len : ℕ) → n < d .limit k → 560 ≤ length buffer → len ≡ length (d .rows k n) → Ok len ≡ loadAnswer d k n buffer
+load-ok d k n buffer len h l e = simp (lt-ltb n (d .limit k) h, le-leb 560 (length buffer) l) (ap Ok e)
 
 -- the front of a buffer in which a row stands
 pub front : (row rest : List ℕ) (n : ℕ) → n ≡ length row → take (n - 0) (row ++ rest) ≡ row
@@ -83,3 +87,14 @@ drop-since d k n p =
 
 pub drop-done : (d : Disk) (k : Kind) (n : ℕ) → Decides (isOk (dropAnswer d k n)) (DropPossible d k n)
 drop-done d k n = (λ e. record { key = grind (arith, tells); write = drop-write d k n e }, drop-since d k n)
+
+ok-is : (r : Result (Unit {0}) Refusal) → isOk r ≡ true → Ok tt ≡ r
+ok-is (Ok x) e = refl
+ok-is (Err x) e = cc
+
+-- what a possible put or drop answers
+pub put-ok : (d : Disk) (k : Kind) (n : ℕ) (row : List ℕ) → PutPossible d k n row → Ok tt ≡ putAnswer d k n row
+put-ok d k n row p = ok-is (putAnswer d k n row) (put-done d k n row .1 p)
+
+pub drop-ok : (d : Disk) (k : Kind) (n : ℕ) → DropPossible d k n → Ok tt ≡ dropAnswer d k n
+drop-ok d k n p = ok-is (dropAnswer d k n) (drop-done d k n .1 p)
