@@ -1,3 +1,5 @@
 pub mod Kind
 pub mod Disk
 pub mod Row
+pub mod Change
+pub mod Making

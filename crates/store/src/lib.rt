@@ -6,8 +6,12 @@ ghost use base.Fml.{GName};
 ghost use Rattle.std.specs.Vec.{made};
 ghost use Rattle.store.specs.Disk.{Disk, Sound, loadAnswer, loadBuffer, putAnswer, putAfter, dropAnswer, dropAfter, powered};
 
+pub mod change;
 pub mod kind;
+pub mod making;
 pub mod row;
+#[cfg(test)]
+mod tests;
 
 use kind::Kind;
 use kind::Refusal;

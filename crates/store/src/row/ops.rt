@@ -47,7 +47,7 @@ impl RowBuffer {
         if row.len() > ROW_BYTES {
             return false;
         }
-        self.bytes.clear();
+        self.clear();
         let _ = self.bytes.extend_from_slice(row);
         true
     }

@@ -1,0 +1,3 @@
+// Stores on one another, run by example.
+#[cfg(test)]
+mod tests;

@@ -1,0 +1,4 @@
+pub mod Span
+pub mod View
+pub mod Beyond
+pub mod Through
