@@ -11,6 +11,10 @@ pub enum Command<'a> {
     Nothing,
     Types,
     Dissect { hex: &'a [u8] },
+    Match {
+        filter: &'a [u8],
+        topic: &'a [u8],
+    },
     Unknown,
 }
 
@@ -20,13 +24,19 @@ pub fn read_command(line: &[u8]) -> Command<'_>
 {
     let (name, rest) = next_word(line);
     let (first, rest) = next_word(rest);
-    let (second, _) = next_word(rest);
-    command_of(name, first, second)
+    let (second, rest) = next_word(rest);
+    let (third, _) = next_word(rest);
+    command_of(name, first, second, third)
 }
 
-// The command with this name and the two words behind it, of which either may be empty.
-fn command_of<'a>(name: &'a [u8], first: &'a [u8], second: &'a [u8]) -> Command<'a>
-    ensures answer { λ r. ⌜ asked r ≡ named (now (name .entry)) (now (first .entry)) (now (second .entry)) ⌝ }
+// The command with this name and the words behind it, the last of which may be empty.
+fn command_of<'a>(
+    name: &'a [u8],
+    first: &'a [u8],
+    second: &'a [u8],
+    third: &'a [u8],
+) -> Command<'a>
+    ensures answer { λ r. ⌜ asked r ≡ named (now (name .entry)) (now (first .entry)) (now (second .entry)) (now (third .entry)) ⌝ }
 {
     if name.is_empty() {
         return Command::Nothing;
@@ -36,6 +46,12 @@ fn command_of<'a>(name: &'a [u8], first: &'a [u8], second: &'a [u8]) -> Command<
     }
     if !first.is_empty() && second.is_empty() && is_word(name, b"dissect") {
         return Command::Dissect { hex: first };
+    }
+    if !second.is_empty() && third.is_empty() && is_word(name, b"match") {
+        return Command::Match {
+            filter: first,
+            topic: second,
+        };
     }
     Command::Unknown
 }

@@ -39,7 +39,7 @@ Bytes bs = All (λ b. b < 256) bs
 
 -- a writer's text is read as what it was written of, and a text that is written of no bytes is malformed
 abbrev pub Inverse : (List ℕ → List ℕ) → List ℕ → Result (Vec ℕ Global) LineError → Type 0
-Inverse write text (Ok bytes) = write (vec-items bytes) ≡ text
+Inverse write text (Ok bytes) = (write (vec-items bytes) ≡ text) × Bytes (vec-items bytes)
 Inverse write text (Err Malformed) = (bs : List ℕ) → Bytes bs → write bs ≡ text → ⊥
 Inverse write text (Err Memory) = Unit {0}
 

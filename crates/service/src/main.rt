@@ -9,6 +9,8 @@ use std::io::BufReader;
 const USAGE: &str = "usage: service COMMAND, or command lines on standard input
   types        the packet type of each first byte, sixteen lines of sixteen, 0 for an illegal one
   dissect HEX  what a packet is, or `bad FIELD PLACE`; HEX is `-` for no bytes
+  match FILTER TOPIC
+               whether a topic filter takes a topic: yes, no, `bad filter` or `bad topic`; both are escaped texts
 A line that is not understood is answered by `? ` and the line as escaped text.
 ";
 

@@ -1,27 +1,35 @@
-use mathlib.Core.Path.{_≡_, sym, ap, subst, _∙_}
+use mathlib.Core.Path.{subst}
 use Rattle.std.specs.Of.String.{string-bytes}
 use Rattle.std.specs.Vec.{made}
-use Rattle.commands.specs.Answer.{answerOf, answerTo}
+use Rattle.commands.specs.Answer.{AnswerOf, Answers}
 use Rattle.commands.proofs.answer.answer.Needs as need
 
 pub returns-in-Nothing : need.returns-in-Nothing
-unfolding answerTo
-returns-in-Nothing c = record { answer = c .new .ensures .bytes ∙ ap (λ a. answerOf a (c .args .line .now)) (c .in-Nothing .ensures tt .answer) }
+unfolding Answers
+returns-in-Nothing c = record {
+  answer = subst (λ a. AnswerOf a (c .args .line .now) (string-bytes (c .new .result))) (c .in-Nothing .ensures tt .answer) (c .new .ensures .bytes);
+}
 
 pub returns-in-Types : need.returns-in-Types
-unfolding answerTo
+unfolding Answers
 returns-in-Types c = record {
-  answer = subst (λ t. made (c .types-text .result) (λ text. string-bytes text ≡ t)) (ap (λ a. answerOf a (c .args .line .now)) (c .in-Types .ensures tt .answer)) (c .types-text .ensures .answer);
+  answer = subst (λ a. made (c .types-text .result) (λ text. AnswerOf a (c .args .line .now) (string-bytes text))) (c .in-Types .ensures tt .answer) (c .types-text .ensures .answer);
 }
 
 pub returns-in-Dissect : need.returns-in-Dissect
-unfolding answerTo
+unfolding Answers
 returns-in-Dissect c = record {
-  answer = subst (λ t. made (c .dissect-answer .result) (λ text. string-bytes text ≡ t)) (ap (λ a. answerOf a (c .args .line .now)) (c .in-Dissect .ensures tt .answer)) (c .dissect-answer .ensures .answer);
+  answer = subst (λ a. made (c .dissect-answer .result) (λ text. AnswerOf a (c .args .line .now) (string-bytes text))) (c .in-Dissect .ensures tt .answer) (c .dissect-answer .ensures .answer);
+}
+
+pub returns-in-Match : need.returns-in-Match
+unfolding Answers
+returns-in-Match c = record {
+  answer = subst (λ a. made (c .match-answer .result) (λ text. AnswerOf a (c .args .line .now) (string-bytes text))) (c .in-Match .ensures tt .answer) (c .match-answer .ensures .answer);
 }
 
 pub returns-in-Unknown : need.returns-in-Unknown
-unfolding answerTo
+unfolding Answers
 returns-in-Unknown c = record {
-  answer = subst (λ t. made (c .not-understood .result) (λ text. string-bytes text ≡ t)) (ap (λ a. answerOf a (c .args .line .now)) (c .in-Unknown .ensures tt .answer)) (c .not-understood .ensures .answer);
+  answer = subst (λ a. made (c .not-understood .result) (λ text. AnswerOf a (c .args .line .now) (string-bytes text))) (c .in-Unknown .ensures tt .answer) (c .not-understood .ensures .answer);
 }

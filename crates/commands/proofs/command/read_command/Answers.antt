@@ -9,5 +9,10 @@ returns c =
     let n = c .next-word .ensures in
     let f = c .next-word-2 .ensures in
     let s = c .next-word-3 .ensures in
-    let second = s .word ∙ ap word (f .after ∙ ap after (n .after)) in
-    record { answer = c .command-of .ensures .answer ∙ (λ i. named (n .word i) ((f .word ∙ ap word (n .after)) i) (second i)) }
+    let t = c .next-word-4 .ensures in
+    let two = f .after ∙ ap after (n .after) in
+    let three = s .after ∙ ap after two in
+    record {
+      answer = c .command-of .ensures .answer
+        ∙ (λ i. named (n .word i) ((f .word ∙ ap word (n .after)) i) ((s .word ∙ ap word two) i) ((t .word ∙ ap word three) i));
+    }

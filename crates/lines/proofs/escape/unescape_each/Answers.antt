@@ -31,4 +31,6 @@ loop-rest-again c =
     )
 
 pub returns : need.returns
-returns c = record { answer = all-spelled (vec-items (c .loop-rest .bytes)) (c .loop-rest .rest .now) (c .args .text .now) (grind (arith, tells)) (c .loop-rest .inv .0) }
+returns c = record {
+  answer = (all-spelled (vec-items (c .loop-rest .bytes)) (c .loop-rest .rest .now) (c .args .text .now) (grind (arith, tells)) (c .loop-rest .inv .0), c .loop-rest .inv .1);
+}
