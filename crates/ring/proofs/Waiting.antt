@@ -66,6 +66,10 @@ module _ {T : Type 0} (r : Ring) (xs : List T) where
       take-all (r .count) ys (omega arith) ∙ sym (take-all (length xs) ys (omega arith)) ∙ ap (λ k. take k ys) c)
       (cases-lt (r .count) (length xs))
 
+  pub waiting-clamped : waiting r xs ≡ take (min (r .count) (length xs)) (round (r .first % length xs) xs)
+  unfolding waiting
+  waiting-clamped = take-clamped (round (r .first % length xs) xs) (length-round (r .first % length xs) xs)
+
   -- one step on, the entries but the first stand in front
   round-advanced : (d : T) (in-f : r .first % length xs < length xs) → round (place r (length xs) 1 % length xs) xs ≡ others (r .first % length xs) xs ++ getD xs (r .first % length xs) d ∷ []
   round-advanced d in-f =
@@ -91,7 +95,7 @@ module _ {T : Type 0} (r : Ring) (xs : List T) where
       let count : min (r .count) n ≡ suc m = omega arith in
       let short : m ≤ length os = omega (arith, length-others f xs d in-f) in
       let at : f ≡ place r n 0 = ap (λ k. k % n) (sym (add-zero (r .first))) in
-      take-clamped (round f xs) (length-round f xs)
+      waiting-clamped
       ∙ ap (λ k. take k (round f xs)) count
       ∙ ap (take (suc m)) (round-here f xs d in-f)
       ∙ ap (λ ys. x ∷ ys) (sym (take-append-le m os (x ∷ []) short))

@@ -1,1 +1,2 @@
+pub mod Remove
 pub mod Ring

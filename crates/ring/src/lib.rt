@@ -5,6 +5,8 @@ ghost use lib.Dec.{eqb};
 ghost use lib.ListN.{length};
 ghost use Rattle.ring.specs.Ring.{waiting, empty, Pushed, Popped, Oldest, Got, Placed};
 
+pub mod remove;
+
 #[derive(Clone, Copy)]
 pub struct Ring {
     first: usize,

@@ -25,6 +25,6 @@ returns g c =
     record {
       room = omega arith;
       after = ap (λ p. waiting (grown r) (set xs p x)) at ∙ waiting-push r xs x (c .if-self-size .left);
-      ring = refl;
+      ring = refl {a = grown r};
       memory = ap (λ p. set xs p x) (at ∙ ap (place r (length xs)) long);
     }
