@@ -6,6 +6,9 @@ ghost use lib.ListN.{length};
 ghost use Rattle.ring.specs.Ring.{waiting, empty, Pushed, Popped, Oldest, Got, Placed};
 
 pub mod remove;
+pub mod run;
+#[cfg(test)]
+mod tests;
 
 #[derive(Clone, Copy)]
 pub struct Ring {
