@@ -23,6 +23,22 @@ place-far first n i in-i h =
     let less : first % n + i - n < n = omega arith in
     sym (mod-add-mod first n i) ∙ mod-eq-sub-mod h ∙ mod-eq-of-lt less
 
+-- two numbers below n have two places
+pub place-apart : (first n i j : ℕ) → i < n → j < n → (first + i) % n ≡ (first + j) % n → i ≡ j
+place-apart first n i j in-i in-j e =
+    let some : 0 < n = omega arith in
+    let in-f : first % n < n = mod-lt first some in
+    ⊎-elim
+    (λ (h : first % n + i < n). ⊎-elim
+    (λ (k : first % n + j < n). omega (arith, place-near first n i h, place-near first n j k))
+    (λ (k : n ≤ first % n + j). omega (arith, place-near first n i h, place-far first n j in-j k))
+    (cases-lt (first % n + j) n))
+    (λ (h : n ≤ first % n + i). ⊎-elim
+    (λ (k : first % n + j < n). omega (arith, place-far first n i in-i h, place-near first n j k))
+    (λ (k : n ≤ first % n + j). omega (arith, place-far first n i in-i h, place-far first n j in-j k))
+    (cases-lt (first % n + j) n))
+    (cases-lt (first % n + i) n)
+
 pub length-round : {T : Type 0} (f : ℕ) (xs : List T) → length (round f xs) ≡ length xs
 unfolding round
 length-round f xs = simp (length-append, length-drop, length-take) (omega arith)

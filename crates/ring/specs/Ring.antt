@@ -88,3 +88,14 @@ pub record Beyond {T : Type 0} (r : Ring) (xs : List T) (i : ℕ) (x y : T) (xs�
 abbrev pub Placed : {T : Type 0} → Ring → List T → ℕ → T → Result (Unit {0}) T → List T → Type 0
 Placed r xs i x (Ok u) xs′ = Replaced r xs i x xs′
 Placed r xs i x (Err y) xs′ = Beyond r xs i x y xs′
+
+-- what waits in a ring of Ts, said by places
+pub record Waits (T : Type 0) : Type 0 where
+  -- nothing waits in a new ring
+  pub none : (xs : List T) → waiting empty xs ≡ []
+  -- as many wait as are counted, and never more than the memory has places
+  pub fits : (r : Ring) (xs : List T) → length (waiting r xs) ≡ min (r .count) (length xs)
+  -- the i-th oldest stands in its place
+  pub stands : (r : Ring) (xs : List T) (i : ℕ) (d : T) → i < length (waiting r xs) → getD (waiting r xs) i d ≡ getD xs (place r (length xs) i) d
+  -- no two stand in one place
+  pub apart : (r : Ring) (n i j : ℕ) → i < n → j < n → place r n i ≡ place r n j → i ≡ j

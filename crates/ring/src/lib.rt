@@ -3,7 +3,7 @@ ghost use mathlib.Core.Path.{_≡_};
 ghost use Prim.Native.Nat.{_+_, _%_, _<_};
 ghost use lib.Dec.{eqb};
 ghost use lib.ListN.{length};
-ghost use Rattle.ring.specs.Ring.{waiting, empty, Pushed, Popped, Oldest, Got, Placed};
+ghost use Rattle.ring.specs.Ring.{waiting, empty, Pushed, Popped, Oldest, Got, Placed, Waits};
 
 pub mod remove;
 pub mod run;
@@ -29,7 +29,7 @@ fn place(first: usize, size: usize, i: usize) -> usize
 
 impl Ring {
     // A ring in which nothing waits, over whatever memory.
-    pub fn new() -> Ring
+    pub const fn new() -> Ring
         ensures { λ r. ⌜ r ≡ empty ⌝ }
     {
         Ring { first: 0, count: 0 }
@@ -115,3 +115,8 @@ impl Ring {
         self.count = 0;
     }
 }
+
+// What `waiting` is, in terms of places: nothing in a new ring, never more than fits, each entry in a place of its own.
+pub fn waiting_law<T: Copy>()
+    ensures { λ _. ⌜ Waits T ⌝ }
+{}
