@@ -65,48 +65,40 @@ fn popped(ring: &mut Ring, memory: &[Publication]) -> u16 {
 fn replies_go_round() -> Result<(), Fail> {
     let mut memory = [puback(0); 2];
     let mut ring = Ring::new();
-    check(refused(ring.push(&mut memory, puback(1))) == 0)?;
-    check(refused(ring.push(&mut memory, puback(2))) == 0)?;
-    check(refused(ring.push(&mut memory, puback(3))) == 3)?;
-    check(id_of(ring.pop(&memory)) == 1)?;
-    check(refused(ring.push(&mut memory, puback(4))) == 0)?;
-    check(memory[0].packet_id == 4)?;
-    check(id_of(ring.get(&memory, 1)) == 4)
-}
-
-#[test]
-fn a_reply_is_replaced() -> Result<(), Fail> {
-    let mut memory = [puback(0); 2];
-    let mut ring = Ring::new();
-    check(refused(ring.push(&mut memory, puback(1))) == 0)?;
-    check(refused(ring.set(&mut memory, 0, puback(7))) == 0)?;
-    check(refused(ring.set(&mut memory, 1, puback(8))) == 8)?;
-    check(memory[1].packet_id == 0)?;
-    check(id_of(ring.oldest(&memory)) == 7)
+    let a = refused(ring.push(&mut memory, puback(1)));
+    let b = refused(ring.push(&mut memory, puback(2)));
+    let c = refused(ring.push(&mut memory, puback(3)));
+    let d = id_of(ring.pop(&memory));
+    let e = refused(ring.push(&mut memory, puback(4)));
+    let f = memory[0].packet_id;
+    let g = refused(ring.set(&mut memory, 1, puback(5)));
+    let h = id_of(ring.get(&memory, 1));
+    check_eq([a, b, c, d, e, f, g, h], [0, 0, 3, 1, 0, 4, 0, 5])
 }
 
 #[test]
 fn publications_leave_from_the_middle() -> Result<(), Fail> {
     let mut memory = [begun(0); 3];
     let mut ring = Ring::new();
-    check(ring.push(&mut memory, begun(1)).is_ok())?;
-    check(ring.push(&mut memory, begun(2)).is_ok())?;
-    check(ring.push(&mut memory, begun(3)).is_ok())?;
-    check(ring.remove(&mut memory, &WithId(2)) == 1)?;
-    check(popped(&mut ring, &memory) == 1)?;
-    check(popped(&mut ring, &memory) == 3)?;
-    check(ring.is_empty(&memory))
+    let _ = ring.push(&mut memory, begun(1));
+    let _ = ring.push(&mut memory, begun(2));
+    let _ = ring.push(&mut memory, begun(3));
+    let went = ring.remove(&mut memory, &WithId(2));
+    let a = popped(&mut ring, &memory);
+    let b = popped(&mut ring, &memory);
+    check_eq([a, b], [1, 3])?;
+    check_eq([went, ring.len(&memory)], [1, 0])
 }
 
 #[test]
 fn no_memory_holds_nothing() -> Result<(), Fail> {
     let mut memory: [Reply; 0] = [];
     let mut ring = Ring::new();
-    check(refused(ring.push(&mut memory, puback(1))) == 1)?;
-    check(ring.pop(&memory).is_none())?;
-    check(ring.get(&memory, 0).is_none())?;
-    check(refused(ring.set(&mut memory, 0, puback(2))) == 2)?;
-    check(ring.len(&memory) == 0)
+    let a = refused(ring.push(&mut memory, puback(1)));
+    let b = id_of(ring.pop(&memory));
+    let c = id_of(ring.oldest(&memory));
+    let d = refused(ring.set(&mut memory, 0, puback(2)));
+    check_eq([a, b, c, d], [1, 0, 0, 2])
 }
 
 // A ring for each link, over one memory for all of them.
@@ -115,14 +107,15 @@ fn links_have_rings_of_their_own() -> Result<(), Fail> {
     let mut memory = [puback(0); 4];
     let mut rings = [Ring::new(); 2];
     let mut ring = rings[1];
-    check(refused(ring.push(&mut memory[2..4], puback(1))) == 0)?;
-    check(refused(ring.push(&mut memory[2..4], puback(2))) == 0)?;
+    let _ = ring.push(&mut memory[2..4], puback(1));
+    let _ = ring.push(&mut memory[2..4], puback(2));
     rings[1] = ring;
-    check(memory[2].packet_id == 1)?;
-    check(rings[1].len(&memory[2..4]) == 2)?;
-    check(rings[1].len(&memory[2..3]) == 1)?;
+    let all = rings[1].len(&memory[2..4]);
+    let fewer = rings[1].len(&memory[2..3]);
     rings[1].clear();
-    check(rings[1].is_empty(&memory[2..4]))
+    let none = rings[1].len(&memory[2..4]);
+    check_eq([all, fewer, none], [2, 1, 0])?;
+    check_eq(memory[2].packet_id, 1)
 }
 
 #[test]
@@ -130,8 +123,14 @@ fn a_run_is_answered_in_order() -> Result<(), Fail> {
     let mut memory = [0u8; 1];
     let mut answers = [Answer::OfPop(None); 3];
     let steps = [Step::Push(7), Step::Push(8), Step::Pop];
-    check(Ring::new().run(&mut memory, &steps, &mut answers) == 3)?;
-    check(matches!(answers[0], Answer::OfPush(Ok(()))))?;
-    check(matches!(answers[1], Answer::OfPush(Err(8))))?;
-    check(matches!(answers[2], Answer::OfPop(Some(7))))
+    let count = Ring::new().run(&mut memory, &steps, &mut answers);
+    check_eq(count, 3)?;
+    check(matches!(
+        answers,
+        [
+            Answer::OfPush(Ok(())),
+            Answer::OfPush(Err(8)),
+            Answer::OfPop(Some(7))
+        ]
+    ))
 }
