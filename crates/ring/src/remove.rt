@@ -27,7 +27,8 @@ impl Ring {
         let mut stay = 0;
         for i in 0..count {
             let entry = memory[place(self.first, size, i)];
-            if !pick.picks(&entry) {
+            let goes = pick.picks(&entry);
+            if !goes {
                 let at = place(self.first, size, stay);
                 memory[at] = entry;
                 stay += 1;

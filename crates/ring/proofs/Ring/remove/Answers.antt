@@ -7,7 +7,7 @@ use lib.ListN.{length}
 use Rattle.ring.specs.Ring.{round}
 use Rattle.ring.proofs.Sift.{Sifted, stays-from, goes-from, sifted-none, turn-stays, turn-goes, gone, removed}
 use Rattle.ring.proofs.Ring.remove.Needs as need
-use Rattle.ring.proofs.Ring.remove.Needs.{then-not-picks, else-not-picks}
+use Rattle.ring.proofs.Ring.remove.Needs.{then-not-goes, else-not-goes}
 
 pub loop-i-holds : need.loop-i-holds
 loop-i-holds g c = sifted-none _ _
@@ -30,13 +30,13 @@ loop-i-again g c =
     let x = c .index-memory-place .result in
     let inside : i < length xs = omega arith in
     let at = c .place .result in
-    elim (c .if-not-picks .came) [
-      | then-not-picks w ↦
-          (let stays : p x ≡ true = stays-from (c .picks .result) (g .P·Pick .picked (c .args .pick .now) x) (c .picks .ensures) (w .if-not-picks .taken) in
+    elim (c .if-not-goes .came) [
+      | then-not-goes w ↦
+          (let stays : p x ≡ true = stays-from (c .picks-goes .result) (g .P·Pick .picked (c .args .pick .now) x) (c .picks-goes .ensures) (w .if-not-goes .taken) in
           let now = turn-stays p first xs ys k i x (c .loop-i .kept .memory) (c .loop-i .inv) inside at (c .place .ensures .answer) (c .index-memory-place .is) stays (w .place-at .result) (w .place-at .ensures .answer) in
           rw (w .memory-is, w .stay-is) now)
-      | else-not-picks w ↦
-          (let goes : p x ≡ false = goes-from (c .picks .result) (g .P·Pick .picked (c .args .pick .now) x) (c .picks .ensures) (w .if-not-picks .left) in
+      | else-not-goes w ↦
+          (let goes : p x ≡ false = goes-from (c .picks-goes .result) (g .P·Pick .picked (c .args .pick .now) x) (c .picks-goes .ensures) (w .if-not-goes .left) in
           let now = turn-goes p first xs ys k i x (c .loop-i .kept .memory) (c .loop-i .inv) inside at (c .place .ensures .answer) (c .index-memory-place .is) goes in
           rw (w .memory-is, w .stay-is) now)
     ]
