@@ -127,4 +127,5 @@ module _ {T : Type 0} (picked : T → Bool) (r : Ring) (xs ys : List T) (k : ℕ
             ∙ take-at (unpicked picked r xs) (drop k (round (r .first % length xs) xs)) k (sym left-is);
         ring = λ j. record { first = r .first; count = left-is j };
         memory = list-is ∙ ap (λ j. unpicked picked r xs ++ drop j (round (r .first % length xs) xs)) left-is;
+        size = long;
       }

@@ -17,3 +17,4 @@ pub record Removed {T : Type 0} (picked : T → Bool) (r : Ring) (xs : List T) (
   pub after : waiting r′ xs′ ≡ unpicked picked r xs
   pub ring : r′ ≡ record { first = r .first; count = length (unpicked picked r xs) }
   pub memory : round (r .first % length xs) xs′ ≡ unpicked picked r xs ++ drop (length (unpicked picked r xs)) (round (r .first % length xs) xs)
+  pub size : length xs′ ≡ length xs

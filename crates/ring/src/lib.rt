@@ -10,6 +10,7 @@ pub mod run;
 #[cfg(test)]
 mod tests;
 
+// Where the first entry stands and how many wait. Any two numbers are a ring: calls reduce them to the memory they are lent.
 #[derive(Clone, Copy)]
 pub struct Ring {
     first: usize,
@@ -42,6 +43,7 @@ impl Ring {
         self.count.min(memory.len())
     }
 
+    // Whether nothing waits.
     pub fn is_empty<T: Copy>(&self, memory: &[T]) -> bool
         ensures { λ r. ⌜ r ≡ eqb (length (waiting (now (self .entry)) (now (memory .entry)))) 0 ⌝ }
     {

@@ -8,7 +8,7 @@ ghost use Rattle.ring.specs.Remove.{Removed};
 use super::Ring;
 use super::place;
 
-// A test on entries.
+// A test on entries: `picked` says which it picks, and `picks` answers so.
 pub trait Pick<T> {
     ghost picked: { Self → T → Bool };
 

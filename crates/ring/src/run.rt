@@ -6,19 +6,21 @@ ghost use Rattle.ring.specs.Ring.{waiting};
 ghost use Rattle.ring.specs.Run.{Stepped, Runs, Queues};
 use super::Ring;
 
+// One call of a run.
 #[derive(Clone, Copy)]
 pub enum Step<T> {
     Push(T),
     Pop,
 }
 
-// What `push` or `pop` answered.
+// What that call answered.
 #[derive(Clone, Copy)]
 pub enum Answer<T> {
     OfPush(Result<(), T>),
     OfPop(Option<T>),
 }
 
+// Writes one place of a list of any items.
 fn put<A: Copy>(list: &mut [A], i: usize, item: A)
     requires { ⌜ i < length (now list) ⌝ }
     ensures { λ _. ⌜ now (list .exit) ≡ set (now (list .entry)) i item ⌝ }
