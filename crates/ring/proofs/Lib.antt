@@ -1,0 +1,4 @@
+pub mod Queue
+pub mod Round
+pub mod Sift
+pub mod Waiting

@@ -1,0 +1,3 @@
+pub mod Remove
+pub mod Ring
+pub mod Run
