@@ -1,0 +1,2 @@
+// A store that is a log: its rows are the replay of the changes that it keeps.
+pub mod changes;
