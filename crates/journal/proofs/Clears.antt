@@ -44,10 +44,10 @@ live-again (c ∷ cs) =
     ])
     refl
 
-dead-mentioned : (c : Change) (cs : List Change) → mentioned cs (c .kind) (c .number) ≡ true → lives c cs ≡ false
+pub dead-mentioned : (c : Change) (cs : List Change) → mentioned cs (c .kind) (c .number) ≡ true → lives c cs ≡ false
 dead-mentioned c cs e = rw e (elim (puts c) as (λ t. (t && false) ≡ false) [ true ↦ refl | false ↦ refl ])
 
-lives-puts : (c : Change) (cs : List Change) → mentioned cs (c .kind) (c .number) ≡ false → lives c cs ≡ puts c
+pub lives-puts : (c : Change) (cs : List Change) → mentioned cs (c .kind) (c .number) ≡ false → lives c cs ≡ puts c
 lives-puts c cs e = rw e (elim (puts c) as (λ t. (t && true) ≡ t) [ true ↦ refl | false ↦ refl ])
 
 -- clearing keeps the row at each key, by what the first change does there

@@ -1,3 +1,6 @@
 pub mod Folds
+pub mod Places
 pub mod Clears
 pub mod Standing
+pub mod Latest
+pub mod Steps

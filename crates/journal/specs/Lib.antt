@@ -1,2 +1,4 @@
 pub mod Key
 pub mod Changes
+pub mod Entry
+pub mod Index
