@@ -14,7 +14,8 @@ use Rattle.std.specs.declared.option.Option.the-variants.{Some, None}
 use Rattle.store.specs.declared.kind.Kind.{Kind}
 use Rattle.store.specs.declared.kind.Kind.the-variants.{Session, Message}
 use Rattle.store.specs.Kind.{sameKind}
-use Rattle.journal.specs.Key.{limitOf, slot}
+use Rattle.journal.specs.Making.{madeLimit}
+use Rattle.journal.specs.Key.{slot}
 use Rattle.journal.specs.Changes.{Change, ofKey, puts, changed, replay, mentioned, Inside}
 use Rattle.journal.specs.Entry.{noChange, slotOf}
 use Rattle.journal.specs.Index.{noted, latestFrom, latest, Knows}
@@ -106,10 +107,10 @@ tells cs k n =
     cs
 
 -- two keys within the limits have one slot only if they are one key
-pub slot-apart : (c : Change) (k : Kind) (n : ℕ) → Inside c → n < limitOf k → ofKey c k n ≡ false → slot k n ≡ slotOf c → ⊥
+pub slot-apart : (c : Change) (k : Kind) (n : ℕ) → Inside c → n < madeLimit k → ofKey c k n ≡ false → slot k n ≡ slotOf c → ⊥
 slot-apart c k n i l e s = apart k n (c .kind) (c .number) l i e s
   where
-    apart : (j : Kind) (m : ℕ) (k : Kind) (n : ℕ) → m < limitOf j → n < limitOf k → (sameKind j k && eqb m n) ≡ false → slot j m ≡ slot k n → ⊥
+    apart : (j : Kind) (m : ℕ) (k : Kind) (n : ℕ) → m < madeLimit j → n < madeLimit k → (sameKind j k && eqb m n) ≡ false → slot j m ≡ slot k n → ⊥
     apart Session m Session n l h e s = eqb-false m n e s
     apart Session m Message n l h e s = omega arith
     apart Message m Session n l h e s = omega arith
@@ -121,7 +122,7 @@ slot-same c k n e = at-key (λ j m. slot j m ≡ slotOf c) c k n e refl
 pub slot-bound : (c : Change) → Inside c → slotOf c < 1152
 slot-bound c h = bound (c .kind) (c .number) h
   where
-    bound : (k : Kind) (n : ℕ) → n < limitOf k → slot k n < 1152
+    bound : (k : Kind) (n : ℕ) → n < madeLimit k → slot k n < 1152
     bound Session n h = omega arith
     bound Message n h = omega arith
 

@@ -4,3 +4,5 @@ pub mod Clears
 pub mod Standing
 pub mod Latest
 pub mod Steps
+pub mod Logs
+pub mod Journals

@@ -5,7 +5,7 @@ use mathlib.Core.Logic.{inl, inr}
 use Prim.Native.Nat.{ℕ, _+_, _<_, _≤_}
 use native.Mathlib.Omega.{arith}
 use lib.ListN.{length, set, getD, take, drop}
-use Rattle.std.proofs.shelf.Lists.{getD-map, map-set, length-map, length-set, set-set, take-more-set, take-set-le, drop-set-lt}
+use Rattle.std.proofs.shelf.Lists.{getD-map, map-set, length-map, length-set, set-set, take-all, take-more-set, take-set-le, drop-set-lt, length-take-le}
 use Rattle.std.proofs.shelf.Tests.{cases-eq, cond-true, le-leb}
 use Rattle.std.specs.Holes.{exchanged}
 use Rattle.std.specs.Changed.{with-item}
@@ -16,7 +16,7 @@ use Rattle.std.specs.declared.alloc.Global.{Global}
 use Rattle.store.specs.Row.{readAnswer, readBuffer}
 use Rattle.journal.specs.declared.entry.Entry.{Entry}
 use Rattle.journal.specs.Changes.{Change}
-use Rattle.journal.specs.Entry.{change, written, noChange, MovedDown}
+use Rattle.journal.specs.Entry.{change, written, kept, noChange, MovedDown}
 
 pub at-place : (v : Vec Entry Global) (i : ℕ) (x : Entry) → x ≡ getD (vec-items v) i x → i < vec-len v → getD (written v) i noChange ≡ change x
 at-place v i x e h =
@@ -59,3 +59,13 @@ moved-down v w to from e l h =
 pub read-whole : (r : Option ℕ) (row buffer after : List ℕ) → r ≡ readAnswer row buffer → 560 ≤ length buffer → after ≡ readBuffer r row buffer → after ≡ row ++ drop (length row) buffer
 read-whole r row buffer after e l f =
     f ∙ ap (λ o. readBuffer o row buffer) (e ∙ cond-true _ _ _ (le-leb 560 (length buffer) l))
+
+pub length-kept : (v : Vec Entry Global) (n : ℕ) → n ≤ vec-len v → length (kept v n) ≡ n
+length-kept v n l = length-take-le n (written v) (omega (arith, length-written v))
+
+pub kept-all : (v : Vec Entry Global) (n : ℕ) → vec-len v ≤ n → kept v n ≡ written v
+kept-all v n l = take-all n (written v) (omega (arith, length-written v))
+
+-- a change written behind those that are kept
+pub kept-more : (v w : Vec Entry Global) (p : ℕ) (c : Change) → p < vec-len v → written w ≡ set (written v) p c → kept w (p + 1) ≡ kept v p ++ c ∷ []
+kept-more v w p c l e = ap (take (p + 1)) e ∙ take-more-set (written v) p c (omega (arith, length-written v))

@@ -12,7 +12,7 @@ use Rattle.std.proofs.shelf.Tests.{cases-eq, cond-true, cond-false, ne-eqb, eq-
 use Rattle.store.specs.declared.kind.Kind.{Kind}
 use Rattle.store.specs.declared.kind.Kind.the-variants.{Session, Message}
 use Rattle.store.specs.Disk.{withRow}
-use Rattle.journal.specs.Key.{limitOf}
+use Rattle.journal.specs.Making.{madeLimit}
 use Rattle.journal.specs.Changes.{Change, changed, replay, live, weight, standingBelow, standing, Inside, ClearingKeeps}
 use Rattle.journal.proofs.Folds.{by-push, own-key, replay-push}
 use Rattle.journal.proofs.Clears.{replay-live, live-again, count-live}
@@ -45,7 +45,7 @@ below-changed (suc n) f g i l h =
 row-same : (rows : ℕ → List ℕ) (n : ℕ) (row : List ℕ) → cond (eqb n n) row (rows n) ≡ row
 row-same rows n row = cond-true _ _ _ (eq-eqb n n refl)
 
-standing-row : (rows : Kind → ℕ → List ℕ) (k : Kind) (n : ℕ) (row : List ℕ) → n < limitOf k → standing (withRow rows k n row) + weight (rows k n) ≡ standing rows + weight row
+standing-row : (rows : Kind → ℕ → List ℕ) (k : Kind) (n : ℕ) (row : List ℕ) → n < madeLimit k → standing (withRow rows k n row) + weight (rows k n) ≡ standing rows + weight row
 standing-row rows Session n row l =
     let b = below-changed 128 (rows Session) (withRow rows Session n row Session) n l (λ m d. cond-false _ _ _ (ne-eqb m n d)) in
     let w : weight (withRow rows Session n row Session n) ≡ weight row = ap weight (row-same (rows Session) n row) in

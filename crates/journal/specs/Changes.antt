@@ -10,13 +10,17 @@ use Rattle.store.specs.declared.kind.Kind.{Kind}
 use Rattle.store.specs.declared.kind.Kind.the-variants.{Session, Message}
 use Rattle.store.specs.Kind.{sameKind}
 use Rattle.store.specs.Disk.{withRow}
-use Rattle.journal.specs.Key.{limitOf}
+use Rattle.journal.specs.Making.{madeLimit}
 
 -- a row is put at a key; no bytes mean that the row at the key is dropped
 pub record Change : Type 0 where
   pub kind : Kind
   pub number : ℕ
   pub row : List ℕ
+
+-- the row at a key becomes these bytes
+abbrev pub changeTo : Kind → ℕ → List ℕ → Change
+changeTo k n row = record { kind = k; number = n; row = row }
 
 -- the change is of this key
 abbrev pub ofKey : Change → Kind → ℕ → Bool
@@ -63,7 +67,7 @@ standing rows = standingBelow 128 (rows Session) + standingBelow 1024 (rows Mess
 
 -- the key of a change lies within the limits
 abbrev pub Inside : Change → Type 0
-Inside c = c .number < limitOf (c .kind)
+Inside c = c .number < madeLimit (c .kind)
 
 -- clearing the dead changes keeps every row, leaves nothing more to clear, and leaves as many changes as rows stand
 pub record ClearingKeeps (cs : List Change) : Type 0 where

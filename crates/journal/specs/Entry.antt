@@ -11,11 +11,11 @@ use Rattle.store.specs.Row.{held}
 use Rattle.journal.specs.declared.key.Key.{Key}
 use Rattle.journal.specs.declared.entry.Entry.{Entry}
 use Rattle.journal.specs.Key.{slot}
-use Rattle.journal.specs.Changes.{Change}
+use Rattle.journal.specs.Changes.{Change, changeTo}
 
 -- a row put at a key, or dropped there
 abbrev pub changeOf : Key → List ℕ → Change
-changeOf key row = record { kind = key .kind; number = key .number; row = row }
+changeOf key row = changeTo (key .kind) (key .number) row
 
 -- the change that a place holds
 abbrev pub change : Entry → Change
@@ -31,7 +31,7 @@ kept v taken = take taken (written v)
 
 -- what stands past the last place
 abbrev pub noChange : Change
-noChange = record { kind = Session; number = 0; row = [] }
+noChange = changeTo Session 0 []
 
 -- the slot of a change's key
 abbrev pub slotOf : Change → ℕ

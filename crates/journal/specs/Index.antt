@@ -8,7 +8,8 @@ use lib.ListN.{length, take, drop, getD}
 use Rattle.std.specs.declared.option.Option.{Option}
 use Rattle.std.specs.declared.option.Option.the-variants.{Some, None}
 use Rattle.store.specs.declared.kind.Kind.{Kind}
-use Rattle.journal.specs.Key.{limitOf, slot}
+use Rattle.journal.specs.Making.{madeLimit}
+use Rattle.journal.specs.Key.{slot}
 use Rattle.journal.specs.Changes.{Change, ofKey, puts, mentioned, live}
 
 -- what is known of a key once the change at place p is looked at, where o was known before
@@ -26,7 +27,7 @@ latest cs k n = latestFrom 0 cs k n None
 
 -- the index has, at each key's slot, the place of the key's latest change
 abbrev pub Knows : List (Option ℕ) → List Change → Type 0
-Knows index cs = (k : Kind) (n : ℕ) → n < limitOf k → getD index (slot k n) None ≡ latest cs k n
+Knows index cs = (k : Kind) (n : ℕ) → n < madeLimit k → getD index (slot k n) None ≡ latest cs k n
 
 -- it is this place that was found
 abbrev pub pointsAt : Option ℕ → ℕ → Bool
@@ -42,4 +43,4 @@ pub record Clearing (xs ys : List Change) (index : List (Option ℕ)) (k i : ℕ
   pub long : length ys ≡ length xs
   pub apart : (j : Kind) (m : ℕ) → mentioned (take k ys) j m ≡ true → mentioned (drop i xs) j m ≡ false
   pub keys : length index ≡ 1152
-  pub knows : (j : Kind) (m : ℕ) → m < limitOf j → getD index (slot j m) None ≡ latestFrom i (drop i xs) j m (latest (take k ys) j m)
+  pub knows : (j : Kind) (m : ℕ) → m < madeLimit j → getD index (slot j m) None ≡ latestFrom i (drop i xs) j m (latest (take k ys) j m)

@@ -2,7 +2,9 @@
 ghost use mathlib.Core.Path.{_≡_};
 ghost use mathlib.Core.List.{List};
 ghost use Prim.Native.Nat.{_+_, _<_, _≤_};
-ghost use lib.ListN.{take};
+ghost use lib.Dec.{ltb};
+ghost use lib.ListN.{length};
+ghost use mathlib.Core.Bool.{cond};
 ghost use Rattle.std.specs.Of.Vec.{vec-items, vec-len};
 ghost use Rattle.journal.specs.Changes.{Change, live};
 ghost use Rattle.journal.specs.Entry.{written, kept};
@@ -43,4 +45,23 @@ fn clear_dead(entries: &mut Vec<Entry>, index: &mut Vec<Option<usize>>) -> usize
         to = settle(entries, index, to, from);
     }
     to
+}
+
+// Answers the first free place; where all are taken, dead changes are cleared first.
+pub(crate) fn make_room(
+    entries: &mut Vec<Entry>,
+    index: &mut Vec<Option<usize>>,
+    taken: usize,
+) -> usize
+    requires { ⌜ taken ≤ vec-len (now entries) ⌝ ∗ ⌜ vec-len (now index) ≡ 1152 ⌝ ∗ ⌜ Knows (vec-items (now index)) (kept (now entries) taken) ⌝ ∗ ⌜ length (live (kept (now entries) taken)) < vec-len (now entries) ⌝ }
+    ensures places { λ _. ⌜ vec-len (now (entries .exit)) ≡ vec-len (now (entries .entry)) ⌝ }
+    ensures keys { λ _. ⌜ vec-len (now (index .exit)) ≡ 1152 ⌝ }
+    ensures within { λ r. ⌜ r < vec-len (now (entries .exit)) ⌝ }
+    ensures after { λ r. ⌜ kept (now (entries .exit)) r ≡ cond (ltb taken (vec-len (now (entries .entry)))) (kept (now (entries .entry)) taken) (live (kept (now (entries .entry)) taken)) ⌝ }
+    ensures knows { λ r. ⌜ Knows (vec-items (now (index .exit))) (kept (now (entries .exit)) r) ⌝ }
+{
+    if taken < entries.len() {
+        return taken;
+    }
+    clear_dead(entries, index)
 }

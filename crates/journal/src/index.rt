@@ -6,7 +6,7 @@ ghost use Rattle.std.specs.Of.Vec.{vec-items, vec-len};
 ghost use Rattle.std.specs.Vec.{made};
 ghost use Rattle.std.specs.declared.option.Option.the-variants.{Some, None};
 ghost use Rattle.journal.specs.Index.{pointsAt};
-use crate::key::ops::KEYS;
+use crate::making::MAX_ROWS;
 use std::alloc::AllocError;
 use std::alloc::Global;
 
@@ -14,8 +14,9 @@ use std::alloc::Global;
 pub(crate) fn make_index(heap: Global) -> Result<Vec<Option<usize>>, AllocError>
     ensures { λ r. ⌜ made r (λ v. (vec-len v ≡ 1152) × ((i : ℕ) → getD (vec-items v) i None ≡ None)) ⌝ }
 {
-    let mut index = Vec::with_capacity(heap, KEYS)?;
-    for _i in 0..KEYS {
+    let keys = MAX_ROWS as usize;
+    let mut index = Vec::with_capacity(heap, keys)?;
+    for _i in 0..keys {
         index.push_reserved(None);
     }
     Ok(index)
@@ -39,4 +40,12 @@ pub(crate) fn note(index: &mut Vec<Option<usize>>, slot: usize, found: Option<us
     ensures after { λ _. ⌜ vec-items (now (index .exit)) ≡ set (vec-items (now (index .entry))) slot found ⌝ }
 {
     index[slot] = found;
+}
+
+// What the index has in this slot.
+pub(crate) fn find(index: &Vec<Option<usize>>, slot: usize) -> Option<usize>
+    requires { ⌜ slot < vec-len (now index) ⌝ }
+    ensures { λ r. ⌜ r ≡ getD (vec-items (now (index .entry))) slot None ⌝ }
+{
+    index[slot]
 }

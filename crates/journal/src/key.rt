@@ -1,6 +1,6 @@
 // Keys of rows within the limits.
 ghost use Prim.Native.Nat.{_<_};
-ghost use Rattle.journal.specs.Key.{limitOf};
+ghost use Rattle.journal.specs.Making.{madeLimit};
 use store::kind::Kind;
 
 pub mod ops;
@@ -10,5 +10,5 @@ pub mod ops;
 pub(crate) struct Key {
     kind: Kind,
     number: u32,
-    ghost inside: { number < limitOf kind },
+    ghost inside: { number < madeLimit kind },
 }

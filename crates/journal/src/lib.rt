@@ -3,4 +3,7 @@ pub mod changes;
 mod clear;
 mod entry;
 mod index;
+pub mod journal;
 mod key;
+mod log;
+pub mod making;

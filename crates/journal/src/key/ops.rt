@@ -2,26 +2,12 @@
 ghost use mathlib.Core.Path.{_≡_};
 ghost use Prim.Native.Nat.{_<_, _≤_};
 ghost use Rattle.std.specs.Options.{Cases as BySome};
-ghost use Rattle.journal.specs.Key.{limitOf, slot};
+ghost use Rattle.journal.specs.Key.{slot};
+ghost use Rattle.journal.specs.Making.{madeLimit};
 use crate::key::Key;
+use crate::making::SESSIONS;
+use crate::making::made_limit;
 use store::kind::Kind;
-
-// Numbers of sessions lie below this.
-pub const SESSIONS: u32 = 128;
-// Numbers of messages lie below this.
-pub const MESSAGES: u32 = 1024;
-// There are this many keys.
-pub const KEYS: usize = 1152;
-
-// Numbers of this kind lie below the answer.
-pub(crate) fn limit_of(kind: Kind) -> u32
-    ensures { λ r. ⌜ r ≡ limitOf kind ⌝ }
-{
-    match kind {
-        Kind::Session => SESSIONS,
-        Kind::Message => MESSAGES,
-    }
-}
 
 impl Key {
     // The first of all keys.
@@ -34,9 +20,9 @@ impl Key {
 
     // The key, unless the number is at or above its kind's limit.
     pub(crate) fn of(kind: Kind, number: u32) -> Option<Key>
-        ensures { λ r. ⌜ BySome r (limitOf kind ≤ number) (λ key. (key .kind ≡ kind) × (key .number ≡ number)) ⌝ }
+        ensures { λ r. ⌜ BySome r (madeLimit kind ≤ number) (λ key. (key .kind ≡ kind) × (key .number ≡ number)) ⌝ }
     {
-        if number >= limit_of(kind) {
+        if number >= made_limit(kind) {
             return None;
         }
         Some(Key { kind, number })
