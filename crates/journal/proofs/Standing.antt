@@ -3,17 +3,18 @@ use mathlib.Core.Path.{_≡_, refl, sym, ap, _∙_}
 use mathlib.Core.List.{List, [], _∷_, _++_}
 use mathlib.Core.Bool.{Bool, true, false, cond, _&&_}
 use mathlib.Core.Logic.{inl, inr}
-use Prim.Native.Nat.{ℕ, zero, suc, _+_, _<_, _≤_}
+use Prim.Native.Nat.{ℕ, zero, suc, _+_, _*_, _<_, _≤_}
 use native.Mathlib.Omega.{arith}
-use lib.Dec.{eqb}
+use lib.Dec.{ltb, eqb}
 use lib.ListN.{length}
 use Rattle.std.specs.shelf.Lists.{All}
-use Rattle.std.proofs.shelf.Tests.{cases-eq, cond-true, cond-false, ne-eqb, eq-eqb}
+use Rattle.std.proofs.shelf.Lists.{length-push}
+use Rattle.std.proofs.shelf.Tests.{cases-eq, cond-both, ltb-true, le-ltb, cond-true, cond-false, ne-eqb, eq-eqb}
 use Rattle.store.specs.declared.kind.Kind.{Kind}
 use Rattle.store.specs.declared.kind.Kind.the-variants.{Session, Message}
 use Rattle.store.specs.Disk.{withRow}
 use Rattle.journal.specs.Making.{madeLimit}
-use Rattle.journal.specs.Changes.{Change, changed, replay, live, weight, standingBelow, standing, Inside, ClearingKeeps}
+use Rattle.journal.specs.Changes.{Change, changed, replay, live, weight, standingBelow, standing, Inside, appended, RoomLeft, ClearingKeeps}
 use Rattle.journal.proofs.Folds.{by-push, own-key, replay-push}
 use Rattle.journal.proofs.Clears.{replay-live, live-again, count-live}
 
@@ -73,3 +74,10 @@ live-standing =
 
 pub clearing : (cs : List Change) → ClearingKeeps cs
 clearing cs = record { rows = λ k n. ap (λ f. f k n) (replay-live cs); again = live-again cs; count = live-standing cs }
+
+-- where dead changes are cleared, at most as many are left as rows stand
+pub room-left : (n : ℕ) (cs : List Change) (c : Change) → length (live cs) ≤ n → length cs ≤ 2 * n + 1 → RoomLeft n cs c
+room-left n cs c h l =
+    let fits : length (appended (2 * n + 1) cs c) ≤ 2 * n + 1 = cond-both (ltb (length cs) (2 * n + 1)) cs (live cs) (λ zs. length (zs ++ c ∷ []) ≤ 2 * n + 1) (λ t. omega (arith, length-push cs c, ltb-true (length cs) (2 * n + 1) t)) (λ t. omega (arith, length-push (live cs) c)) in
+    let spare : 2 * n + 1 ≤ length cs → length (appended (2 * n + 1) cs c) + n ≤ 2 * n + 1 = λ m. rw (le-ltb (length cs) (2 * n + 1) m) (omega (arith, length-push (live cs) c)) in
+    record { fits = fits; spare = spare }

@@ -2,7 +2,7 @@
 use mathlib.Core.Path.{_≡_}
 use mathlib.Core.List.{List, [], _∷_, _++_}
 use mathlib.Core.Bool.{Bool, true, false, cond, not, _&&_, _||_}
-use Prim.Native.Nat.{ℕ, zero, suc, _+_, _<_}
+use Prim.Native.Nat.{ℕ, zero, suc, _+_, _*_, _<_, _≤_}
 use lib.Dec.{ltb, eqb}
 use lib.ListN.{length}
 use Rattle.std.specs.shelf.Lists.{All, folded}
@@ -77,3 +77,11 @@ pub record ClearingKeeps (cs : List Change) : Type 0 where
 
 abbrev pub ClearingLaw : Type 0
 ClearingLaw = (cs : List Change) → ClearingKeeps cs
+
+-- where at most n rows stand and 2n + 1 changes have places, one change more always has a place, and after a clearing n more have
+pub record RoomLeft (n : ℕ) (cs : List Change) (c : Change) : Type 0 where
+  pub fits : length (appended (2 * n + 1) cs c) ≤ 2 * n + 1
+  pub spare : 2 * n + 1 ≤ length cs → length (appended (2 * n + 1) cs c) + n ≤ 2 * n + 1
+
+abbrev pub RoomLaw : Type 0
+RoomLaw = (n : ℕ) (cs : List Change) (c : Change) → length (live cs) ≤ n → length cs ≤ 2 * n + 1 → RoomLeft n cs c

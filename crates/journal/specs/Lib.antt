@@ -4,5 +4,5 @@ pub mod Changes
 pub mod Entry
 pub mod Index
 pub mod Log
-pub mod Journal
+pub mod Disk
 pub mod Sound

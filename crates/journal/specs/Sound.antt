@@ -15,11 +15,11 @@ use Rattle.store.specs.declared.kind.Kind.the-variants.{Session, Message}
 use Rattle.store.specs.Kind.{sameKind}
 use Rattle.store.specs.Disk.{Sound}
 use Rattle.journal.specs.declared.entry.Entry.{Entry}
-use Rattle.journal.specs.declared.journal.Journal.{Journal}
+use Rattle.journal.specs.declared.Journal.{Journal}
 use Rattle.journal.specs.Making.{madeLimit}
 use Rattle.journal.specs.Changes.{Change, changed, Inside}
 use Rattle.journal.specs.Entry.{change}
-use Rattle.journal.specs.Journal.{changes, journalDisk}
+use Rattle.journal.specs.Disk.{changes, journalDisk}
 
 abbrev Short : Change → Type 0
 Short c = length (c .row) ≤ 560

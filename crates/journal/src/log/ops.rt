@@ -76,7 +76,8 @@ impl Log {
 
     // How many changes it keeps.
     pub(crate) fn taken(&self) -> usize
-        ensures { λ r. ⌜ r ≡ length (logged (now (self .entry))) ⌝ }
+        ensures answer { λ r. ⌜ r ≡ length (logged (now (self .entry))) ⌝ }
+        ensures within { λ r. ⌜ r ≤ placesOf (now (self .entry)) ⌝ }
     {
         self.taken
     }

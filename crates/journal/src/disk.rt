@@ -6,12 +6,12 @@ ghost use Prim.Native.Nat.{_+_, _*_, _≤_};
 ghost use lib.ListN.{length};
 ghost use Rattle.std.specs.Options.{Cases as BySome};
 ghost use Rattle.std.specs.Vec.{made};
-ghost use Rattle.store.specs.Disk.{loadAnswer, loadBuffer, putAnswer, putAfter, dropAnswer, dropAfter};
+ghost use Rattle.store.specs.Disk.{putAnswer, putAfter, dropAnswer, dropAfter, powered};
 ghost use Rattle.journal.specs.Changes.{standing};
-ghost use Rattle.journal.specs.Journal.{changes, places, journalDisk, outside, putChanges, dropChanges};
+ghost use Rattle.journal.specs.Disk.{changes, places, journalDisk, outside, putChanges, dropChanges};
 ghost use Rattle.journal.specs.Making.{Makes};
 ghost use Rattle.journal.specs.Sound.{journalSound};
-use crate::journal::Journal;
+use crate::Journal;
 use crate::key::Key;
 use crate::log::Log;
 use crate::making::MAX_ROWS;
@@ -57,6 +57,7 @@ impl Journal {
     // How many changes it keeps.
     pub fn change_count(&self) -> usize
         ensures answer { λ r. ⌜ r ≡ length (changes (now (self .entry))) ⌝ }
+        ensures within { λ r. ⌜ r ≤ places (now (self .entry)) ⌝ }
     {
         self.log.taken()
     }
@@ -144,7 +145,12 @@ pub impl Store for Journal as JournalStore {
         self.free
     }
 
-    fn power(&mut self, writes: u32) {
+    fn power(&mut self, writes: u32)
+        ensures after { λ _. ⌜ journalDisk (now (self .exit)) ≡ powered (journalDisk (now (self .entry))) writes ⌝ }
+        ensures rest { λ _. ⌜ outside (now (self .exit)) ≡ outside (now (self .entry)) ⌝ }
+        ensures changes { λ _. ⌜ changes (now (self .exit)) ≡ changes (now (self .entry)) ⌝ }
+        ensures places { λ _. ⌜ places (now (self .exit)) ≡ places (now (self .entry)) ⌝ }
+    {
         self.writes = writes;
     }
 }

@@ -1,8 +1,8 @@
 use native.Mathlib.Omega.{arith}
-use Rattle.journal.specs.Journal.{changes}
+use Rattle.journal.specs.Disk.{changes}
 use Rattle.journal.proofs.Standing.{live-standing}
 use Rattle.journal.specs.Sound.{all-inside}
-use Rattle.journal.proofs.journal.Journal.places.Needs as need
+use Rattle.journal.proofs.Journal.places.Needs as need
 
 pub returns : need.returns
 returns c =

@@ -5,10 +5,10 @@ use lib.ListN.{length, drop}
 use Rattle.std.specs.declared.result.Result.the-variants.{Ok}
 use Rattle.journal.specs.Making.{madeLimit}
 use Rattle.journal.specs.Changes.{replay}
-use Rattle.journal.specs.Journal.{changes, journalDisk}
+use Rattle.journal.specs.Disk.{changes, journalDisk}
 use Rattle.journal.specs.Sound.{journalSound}
 use Rattle.journal.proofs.Journals.{of-key, inside-key, load-done}
-use Rattle.journal.proofs.journal.ops.JournalStore.load.Needs as need
+use Rattle.journal.proofs.disk.JournalStore.load.Needs as need
 
 pub returns : need.returns
 returns c =

@@ -9,9 +9,9 @@ use Rattle.store.specs.Disk.{absent, withRow}
 use Rattle.journal.specs.Making.{madeLimit}
 use Rattle.journal.specs.Changes.{changeTo, replay, live, appended}
 use Rattle.journal.specs.Entry.{changeOf}
-use Rattle.journal.specs.Journal.{changes, places, journalDisk}
+use Rattle.journal.specs.Disk.{changes, places, journalDisk}
 use Rattle.journal.proofs.Journals.{replay-appended, of-key, inside-key, drop-done, count-drop, same-disk}
-use Rattle.journal.proofs.journal.ops.JournalStore.drop_row.Needs as need
+use Rattle.journal.proofs.disk.JournalStore.drop_row.Needs as need
 
 pub ghost-self : need.ghost-self
 ghost-self c =
