@@ -1,0 +1,8 @@
+pub mod Making
+pub mod Key
+pub mod Changes
+pub mod Entry
+pub mod Index
+pub mod Log
+pub mod Disk
+pub mod Sound
