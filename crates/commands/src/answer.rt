@@ -44,7 +44,12 @@ fn dissect_answer(heap: Global, hex: &[u8], line: &[u8]) -> Result<String, Alloc
 }
 
 // Whether the filter takes the topic, both given as escaped texts.
-fn match_answer(heap: Global, filter: &[u8], topic: &[u8], line: &[u8]) -> Result<String, AllocError>
+fn match_answer(
+    heap: Global,
+    filter: &[u8],
+    topic: &[u8],
+    line: &[u8],
+) -> Result<String, AllocError>
     ensures answer { λ r. ⌜ made r (λ text. MatchAnswer (now (filter .entry)) (now (topic .entry)) (now (line .entry)) (string-bytes text)) ⌝ }
 {
     match (unescape(heap, filter), unescape(heap, topic)) {
@@ -52,7 +57,10 @@ fn match_answer(heap: Global, filter: &[u8], topic: &[u8], line: &[u8]) -> Resul
             let text = String::from_str(heap, judge(filter.as_slice(), topic.as_slice()))?;
             Ok(text)
         }
-        (Err(LineError::Malformed), _) | (_, Err(LineError::Malformed)) => not_understood(heap, line),
+        (Err(LineError::Malformed), _) | (_, Err(LineError::Malformed)) => not_understood(
+            heap,
+            line,
+        ),
         _ => Err(AllocError),
     }
 }

@@ -11,10 +11,7 @@ pub enum Command<'a> {
     Nothing,
     Types,
     Dissect { hex: &'a [u8] },
-    Match {
-        filter: &'a [u8],
-        topic: &'a [u8],
-    },
+    Match { filter: &'a [u8], topic: &'a [u8] },
     Unknown,
 }
 
@@ -30,12 +27,7 @@ pub fn read_command(line: &[u8]) -> Command<'_>
 }
 
 // The command with this name and the words behind it, the last of which may be empty.
-fn command_of<'a>(
-    name: &'a [u8],
-    first: &'a [u8],
-    second: &'a [u8],
-    third: &'a [u8],
-) -> Command<'a>
+fn command_of<'a>(name: &'a [u8], first: &'a [u8], second: &'a [u8], third: &'a [u8]) -> Command<'a>
     ensures answer { λ r. ⌜ asked r ≡ named (now (name .entry)) (now (first .entry)) (now (second .entry)) (now (third .entry)) ⌝ }
 {
     if name.is_empty() {

@@ -14,7 +14,7 @@ use Rattle.std.specs.declared.option.Option.the-variants.{Some, None}
 use Rattle.store.specs.declared.kind.Kind.{Kind}
 use Rattle.store.specs.declared.kind.Kind.the-variants.{Session, Message}
 use Rattle.store.specs.Kind.{sameKind}
-use Rattle.journal.specs.Making.{madeLimit}
+use Rattle.store.specs.Making.{madeLimit}
 use Rattle.journal.specs.Key.{slot}
 use Rattle.journal.specs.Changes.{Change, ofKey, puts, changed, replay, mentioned, Inside}
 use Rattle.journal.specs.Entry.{noChange, slotOf}

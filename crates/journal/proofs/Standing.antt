@@ -13,7 +13,7 @@ use Rattle.std.proofs.shelf.Tests.{cases-eq, cond-both, ltb-true, le-ltb, cond-
 use Rattle.store.specs.declared.kind.Kind.{Kind}
 use Rattle.store.specs.declared.kind.Kind.the-variants.{Session, Message}
 use Rattle.store.specs.Disk.{withRow}
-use Rattle.journal.specs.Making.{madeLimit}
+use Rattle.store.specs.Making.{madeLimit}
 use Rattle.journal.specs.Changes.{Change, changed, replay, live, weight, standingBelow, standing, Inside, appended, RoomLeft, ClearingKeeps}
 use Rattle.journal.proofs.Folds.{by-push, own-key, replay-push}
 use Rattle.journal.proofs.Clears.{replay-live, live-again, count-live}

@@ -11,7 +11,7 @@ use Rattle.std.proofs.shelf.Tests.{false≢true, both-ways, cases-bool, cond-tr
 use Rattle.std.specs.declared.option.Option.{Option}
 use Rattle.std.specs.declared.option.Option.the-variants.{Some, None}
 use Rattle.store.specs.declared.kind.Kind.{Kind}
-use Rattle.journal.specs.Making.{madeLimit}
+use Rattle.store.specs.Making.{madeLimit}
 use Rattle.journal.specs.Key.{slot}
 use Rattle.journal.specs.Changes.{Change, ofKey, puts, mentioned, live, Inside}
 use Rattle.journal.specs.Entry.{noChange, slotOf, MovedDown}

@@ -10,7 +10,7 @@ use Rattle.store.specs.declared.kind.Kind.{Kind}
 use Rattle.store.specs.declared.kind.Kind.the-variants.{Session, Message}
 use Rattle.store.specs.Kind.{sameKind}
 use Rattle.store.specs.Disk.{withRow}
-use Rattle.journal.specs.Making.{madeLimit}
+use Rattle.store.specs.Making.{madeLimit}
 
 -- a row is put at a key; no bytes mean that the row at the key is dropped
 pub record Change : Type 0 where

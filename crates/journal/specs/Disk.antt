@@ -9,7 +9,7 @@ use Rattle.store.specs.declared.kind.Kind.{Kind}
 use Rattle.store.specs.declared.kind.Refusal.{Refusal}
 use Rattle.store.specs.Disk.{Disk, absent}
 use Rattle.journal.specs.declared.Journal.{Journal}
-use Rattle.journal.specs.Making.{madeLimit}
+use Rattle.store.specs.Making.{madeLimit}
 use Rattle.journal.specs.Changes.{Change, changeTo, replay, appended}
 use Rattle.journal.specs.Log.{logged, placesOf}
 

@@ -8,7 +8,7 @@ use lib.ListN.{length, take, drop, getD}
 use Rattle.std.specs.declared.option.Option.{Option}
 use Rattle.std.specs.declared.option.Option.the-variants.{Some, None}
 use Rattle.store.specs.declared.kind.Kind.{Kind}
-use Rattle.journal.specs.Making.{madeLimit}
+use Rattle.store.specs.Making.{madeLimit}
 use Rattle.journal.specs.Key.{slot}
 use Rattle.journal.specs.Changes.{Change, ofKey, puts, mentioned, live}
 

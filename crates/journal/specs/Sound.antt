@@ -16,7 +16,7 @@ use Rattle.store.specs.Kind.{sameKind}
 use Rattle.store.specs.Disk.{Sound}
 use Rattle.journal.specs.declared.entry.Entry.{Entry}
 use Rattle.journal.specs.declared.Journal.{Journal}
-use Rattle.journal.specs.Making.{madeLimit}
+use Rattle.store.specs.Making.{madeLimit}
 use Rattle.journal.specs.Changes.{Change, changed, Inside}
 use Rattle.journal.specs.Entry.{change}
 use Rattle.journal.specs.Disk.{changes, journalDisk}

@@ -9,20 +9,19 @@ ghost use Rattle.std.specs.Vec.{made};
 ghost use Rattle.store.specs.Disk.{putAnswer, putAfter, dropAnswer, dropAfter, powered};
 ghost use Rattle.journal.specs.Changes.{standing};
 ghost use Rattle.journal.specs.Disk.{changes, places, journalDisk, outside, putChanges, dropChanges};
-ghost use Rattle.journal.specs.Making.{Makes};
+ghost use Rattle.store.specs.Making.{Makes};
 ghost use Rattle.journal.specs.Sound.{journalSound};
 use crate::Journal;
 use crate::key::Key;
 use crate::log::Log;
-use crate::making::MAX_ROWS;
-use crate::making::MakeError;
-use crate::making::MakeErrorFromAlloc;
-use crate::making::made_limit;
 use std::alloc::Global;
 use store::ROW_BYTES;
 use store::Store;
 use store::kind::Kind;
 use store::kind::Refusal;
+use store::making::MAX_ROWS;
+use store::making::MakeError;
+use store::making::MakeErrorFromAlloc;
 
 // The rows that are free once a row is put where one was absent or stood, if there is room.
 fn free_after_put(absent: bool, free: u32) -> Option<u32>
@@ -138,7 +137,7 @@ pub impl Store for Journal as JournalStore {
     }
 
     fn limit(&self, kind: Kind) -> u32 {
-        made_limit(kind)
+        kind.made_limit()
     }
 
     fn free(&self) -> u32 {

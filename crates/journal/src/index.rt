@@ -6,9 +6,9 @@ ghost use Rattle.std.specs.Of.Vec.{vec-items, vec-len};
 ghost use Rattle.std.specs.Vec.{made};
 ghost use Rattle.std.specs.declared.option.Option.the-variants.{Some, None};
 ghost use Rattle.journal.specs.Index.{pointsAt};
-use crate::making::MAX_ROWS;
 use std::alloc::AllocError;
 use std::alloc::Global;
+use store::making::MAX_ROWS;
 
 // An index that knows of no change.
 pub(crate) fn make_index(heap: Global) -> Result<Vec<Option<usize>>, AllocError>

@@ -1,6 +1,6 @@
 // Keys of rows within the limits.
 ghost use Prim.Native.Nat.{_<_};
-ghost use Rattle.journal.specs.Making.{madeLimit};
+ghost use Rattle.store.specs.Making.{madeLimit};
 use store::kind::Kind;
 
 pub mod ops;

@@ -12,7 +12,6 @@ mod entry;
 mod index;
 mod key;
 mod log;
-pub mod making;
 #[cfg(test)]
 mod tests;
 

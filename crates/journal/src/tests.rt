@@ -1,14 +1,14 @@
 // What a journal answers, by example.
 use crate::Journal;
 use crate::disk::JournalStore;
-use crate::making::MakeError;
-use crate::making::MakeErrorDebug;
 use std::test::*;
 use store::ROW_BYTES;
 use store::Store;
 use store::kind::Kind;
 use store::kind::Refusal;
 use store::kind::RefusalPartialEq;
+use store::making::MakeError;
+use store::making::MakeErrorDebug;
 
 // One row has places for three changes: the fourth clears the dead ones first, and the row stays.
 #[test]

@@ -3,11 +3,10 @@ ghost use mathlib.Core.Path.{_≡_};
 ghost use Prim.Native.Nat.{_<_, _≤_};
 ghost use Rattle.std.specs.Options.{Cases as BySome};
 ghost use Rattle.journal.specs.Key.{slot};
-ghost use Rattle.journal.specs.Making.{madeLimit};
+ghost use Rattle.store.specs.Making.{madeLimit};
 use crate::key::Key;
-use crate::making::SESSIONS;
-use crate::making::made_limit;
 use store::kind::Kind;
+use store::making::SESSIONS;
 
 impl Key {
     // The first of all keys.
@@ -22,7 +21,7 @@ impl Key {
     pub(crate) fn of(kind: Kind, number: u32) -> Option<Key>
         ensures { λ r. ⌜ BySome r (madeLimit kind ≤ number) (λ key. (key .kind ≡ kind) × (key .number ≡ number)) ⌝ }
     {
-        if number >= made_limit(kind) {
+        if number >= kind.made_limit() {
             return None;
         }
         Some(Key { kind, number })

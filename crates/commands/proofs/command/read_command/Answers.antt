@@ -14,5 +14,5 @@ returns c =
     let three = s .after ∙ ap after two in
     record {
       answer = c .command-of .ensures .answer
-        ∙ (λ i. named (n .word i) ((f .word ∙ ap word (n .after)) i) ((s .word ∙ ap word two) i) ((t .word ∙ ap word three) i));
+          ∙ (λ i. named (n .word i) ((f .word ∙ ap word (n .after)) i) ((s .word ∙ ap word two) i) ((t .word ∙ ap word three) i));
     }

@@ -25,7 +25,7 @@ pub returns-then-eq : need.returns-then-eq
 returns-then-eq c = record {
   answer = (
     ap escaped (c .new .ensures .items) ∙ sym (matches-decides _ _ _ (c .eq .ensures) .0 (c .if-eq .taken)),
-    subst (λ l. Bytes l) (sym (c .new .ensures .items)) tt
+    subst (λ l. Bytes l) (sym (c .new .ensures .items)) tt,
   );
 }
 
@@ -33,7 +33,7 @@ pub returns-then-eq-2 : need.returns-then-eq-2
 returns-then-eq-2 c = record {
   answer = (
     ap escaped (c .in-Continue-vec .ensures tt .made .0) ∙ sym (matches-decides _ _ _ (c .eq-2 .ensures) .0 (c .if-eq-2 .taken)),
-    subst (λ l. Bytes l) (sym (c .in-Continue-vec .ensures tt .made .0)) (lit< tt, tt)
+    subst (λ l. Bytes l) (sym (c .in-Continue-vec .ensures tt .made .0)) (lit< tt, tt),
   );
 }
 

@@ -3,7 +3,7 @@ use mathlib.Core.List.{_++_}
 use native.Mathlib.Omega.{arith}
 use lib.ListN.{length, drop}
 use Rattle.std.specs.declared.result.Result.the-variants.{Ok}
-use Rattle.journal.specs.Making.{madeLimit}
+use Rattle.store.specs.Making.{madeLimit}
 use Rattle.journal.specs.Changes.{replay}
 use Rattle.journal.specs.Disk.{changes, journalDisk}
 use Rattle.journal.specs.Sound.{journalSound}

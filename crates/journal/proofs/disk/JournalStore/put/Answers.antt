@@ -5,7 +5,7 @@ use native.Mathlib.Omega.{arith}
 use lib.Dec.{eqb}
 use lib.ListN.{length}
 use Rattle.store.specs.Disk.{absent, withRow}
-use Rattle.journal.specs.Making.{madeLimit}
+use Rattle.store.specs.Making.{madeLimit}
 use Rattle.journal.specs.Changes.{changeTo, replay, live, appended}
 use Rattle.journal.specs.Entry.{changeOf}
 use Rattle.journal.specs.Disk.{changes, places, journalDisk}
