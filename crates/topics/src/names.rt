@@ -1,5 +1,4 @@
 // Topic names, topic filters and client identifiers.
-ghost use mathlib.Core.Bool.{Bool};
 ghost use mathlib.Core.Path.{_≡_};
 ghost use Rattle.std.specs.Text.{asciiAlnum};
 ghost use Rattle.topics.specs.Levels.{levels};
