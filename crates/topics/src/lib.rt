@@ -4,6 +4,4 @@ pub mod matching;
 pub mod names;
 pub mod qos;
 pub mod subscription;
-#[cfg(test)]
-mod tests;
 pub mod text;

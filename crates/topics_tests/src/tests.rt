@@ -1,17 +1,17 @@
 // The rules by example.
-use crate::matching::matches;
-use crate::names::MAX_CLIENT_ID;
-use crate::names::MAX_TOPIC;
-use crate::names::is_client_identifier;
-use crate::names::is_topic_filter;
-use crate::names::is_topic_name;
-use crate::qos::Qos;
-use crate::qos::QosDebug;
-use crate::qos::QosPartialEq;
-use crate::subscription::Subscription;
-use crate::subscription::granted;
-use crate::text::is_text;
 use std::test::*;
+use topics::matching::matches;
+use topics::names::MAX_CLIENT_ID;
+use topics::names::MAX_TOPIC;
+use topics::names::is_client_identifier;
+use topics::names::is_topic_filter;
+use topics::names::is_topic_name;
+use topics::qos::Qos;
+use topics::qos::QosDebug;
+use topics::qos::QosPartialEq;
+use topics::subscription::Subscription;
+use topics::subscription::granted;
+use topics::text::is_text;
 
 // Refused: U+0000, two overlong forms, a surrogate, a number above U+10FFFF, an unfinished character.
 const TEXTS: [(&[u8], bool); 9] = [
