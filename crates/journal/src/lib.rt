@@ -13,8 +13,6 @@ mod index;
 mod key;
 mod log;
 pub mod making;
-#[cfg(test)]
-mod tests;
 
 use log::Log;
 

@@ -1,8 +1,8 @@
 // What a journal answers, by example.
-use crate::Journal;
-use crate::disk::JournalStore;
-use crate::making::MakeError;
-use crate::making::MakeErrorDebug;
+use journal::Journal;
+use journal::disk::JournalStore;
+use journal::making::MakeError;
+use journal::making::MakeErrorDebug;
 use std::test::*;
 use store::ROW_BYTES;
 use store::Store;
