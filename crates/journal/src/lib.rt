@@ -12,8 +12,6 @@ mod entry;
 mod index;
 mod key;
 mod log;
-#[cfg(test)]
-mod tests;
 
 use log::Log;
 

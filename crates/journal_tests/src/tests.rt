@@ -1,6 +1,6 @@
 // What a journal answers, by example.
-use crate::Journal;
-use crate::disk::JournalStore;
+use journal::Journal;
+use journal::disk::JournalStore;
 use std::test::*;
 use store::ROW_BYTES;
 use store::Store;

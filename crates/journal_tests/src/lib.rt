@@ -1,0 +1,3 @@
+// A journal, run by example.
+#[cfg(test)]
+mod tests;
