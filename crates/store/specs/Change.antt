@@ -37,6 +37,7 @@ pub record DropPossible (d : Disk) (k : Kind) (n : ℕ) : Type 0 where
   pub key : n < d .limit k
   pub write : (length (d .rows k n) ≡ 0) ⊎ (0 < d .writes)
 
+-- a change can be done
 abbrev pub Possible : Disk → Change → Type 0
 Possible d (Put k n row) = PutPossible d k n (vec-items row)
 Possible d (Remove k n) = DropPossible d k n

@@ -12,7 +12,7 @@ use std::alloc::Global;
 use store::row::RowBuffer;
 
 // Memory for so many rows, none of which stands yet.
-pub fn make(heap: Global, count: usize) -> Result<Vec<RowBuffer>, AllocError>
+pub(crate) fn make(heap: Global, count: usize) -> Result<Vec<RowBuffer>, AllocError>
     ensures answer { λ r. ⌜ made r (λ v. (contents v ≡ replicate count []) × (vec-len v ≡ count)) ⌝ }
 {
     let mut rows = Vec::with_capacity(heap, count)?;
@@ -22,14 +22,14 @@ pub fn make(heap: Global, count: usize) -> Result<Vec<RowBuffer>, AllocError>
     Ok(rows)
 }
 
-pub fn len_at(rows: &Vec<RowBuffer>, at: usize) -> usize
+pub(crate) fn len_at(rows: &Vec<RowBuffer>, at: usize) -> usize
     requires { ⌜ at < vec-len (now rows) ⌝ }
     ensures answer { λ r. ⌜ r ≡ length (getD (contents (now (rows .entry))) at []) ⌝ }
 {
     rows[at].len()
 }
 
-pub fn read_at(rows: &Vec<RowBuffer>, at: usize, buffer: &mut [u8]) -> Option<usize>
+pub(crate) fn read_at(rows: &Vec<RowBuffer>, at: usize, buffer: &mut [u8]) -> Option<usize>
     requires { ⌜ at < vec-len (now rows) ⌝ }
     ensures answer { λ r. ⌜ r ≡ readAnswer (getD (contents (now (rows .entry))) at []) (now (buffer .entry)) ⌝ }
     ensures buffer { λ r. ⌜ now (buffer .exit) ≡ readBuffer r (getD (contents (now (rows .entry))) at []) (now (buffer .entry)) ⌝ }
@@ -37,7 +37,7 @@ pub fn read_at(rows: &Vec<RowBuffer>, at: usize, buffer: &mut [u8]) -> Option<us
     rows[at].read(buffer)
 }
 
-pub fn write_at(rows: &mut Vec<RowBuffer>, at: usize, row: &[u8])
+pub(crate) fn write_at(rows: &mut Vec<RowBuffer>, at: usize, row: &[u8])
     requires { ⌜ at < vec-len (now rows) ⌝ ∗ ⌜ length (now row) ≤ 560 ⌝ }
     ensures len { λ _. ⌜ vec-len (now (rows .exit)) ≡ vec-len (now (rows .entry)) ⌝ }
     ensures after { λ _. ⌜ contents (now (rows .exit)) ≡ set (contents (now (rows .entry))) at (now (row .entry)) ⌝ }
@@ -45,7 +45,7 @@ pub fn write_at(rows: &mut Vec<RowBuffer>, at: usize, row: &[u8])
     let _ = rows[at].write(row);
 }
 
-pub fn clear_at(rows: &mut Vec<RowBuffer>, at: usize)
+pub(crate) fn clear_at(rows: &mut Vec<RowBuffer>, at: usize)
     requires { ⌜ at < vec-len (now rows) ⌝ }
     ensures len { λ _. ⌜ vec-len (now (rows .exit)) ≡ vec-len (now (rows .entry)) ⌝ }
     ensures after { λ _. ⌜ contents (now (rows .exit)) ≡ set (contents (now (rows .entry))) at [] ⌝ }

@@ -2,3 +2,4 @@ pub mod Span
 pub mod View
 pub mod Beyond
 pub mod Through
+pub mod Sound

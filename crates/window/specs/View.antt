@@ -1,14 +1,11 @@
 -- What a window shows of the disk below, and what it leaves alone.
 use mathlib.Core.Path.{_≡_}
 use mathlib.Core.List.{List, []}
-use mathlib.Core.Bool.{Bool, true, false, cond, _&&_}
-use Prim.Native.Nat.{ℕ, _+_, _-_, _≤_, min}
-use native.Mathlib.Omega.{arith}
+use mathlib.Core.Bool.{Bool, cond, _&&_}
+use Prim.Native.Nat.{ℕ, _+_, _-_, min}
 use lib.Dec.{ltb, leb}
-use lib.ListN.{length}
-use Rattle.std.proofs.shelf.Tests.{cond-false, le-ltb}
 use Rattle.store.specs.declared.kind.Kind.{Kind}
-use Rattle.store.specs.Disk.{Disk, Sound}
+use Rattle.store.specs.Disk.{Disk}
 use Rattle.window.specs.declared.span.Spans.{Spans}
 use Rattle.window.specs.Span.{baseOf, widthOf}
 
@@ -36,6 +33,7 @@ pub record Around (F : Type 0) : Type 0 where
   pub limit : Kind → ℕ
   pub below : F
 
+-- what a disk, with what lies outside it, has around a window
 abbrev pub around : {F : Type 0} → Disk → F → Spans → Around F
 around d f s = record {
   spans = s;
@@ -50,14 +48,3 @@ pub record Beside (d e : Disk) (s : Spans) : Type 0 where
   pub limit : (k : Kind) → view e s .limit k ≡ view d s .limit k
   pub free : view e s .free ≡ e .free
   pub writes : view e s .writes ≡ e .writes
-
--- the proof that a window shows a sound disk; a reader may skip it
-short-cond : (t : Bool) (r : List ℕ) → length r ≤ 560 → length (cond t r []) ≤ 560
-short-cond true r h = h
-short-cond false r h = omega arith
-
-pub viewSound : (d : Disk) (s : Spans) → Sound d → Sound (view d s)
-viewSound d s ok = record {
-  short = λ k n. short-cond _ _ (ok .short k (baseOf s k + n));
-  inside = λ k n h. cond-false _ _ _ (le-ltb _ _ h);
-}

@@ -7,7 +7,8 @@ ghost use Rattle.std.specs.Orderings.{Decides};
 ghost use Rattle.std.specs.Results.{Cases as ByOk};
 ghost use Rattle.store.specs.declared.kind.Kind.{Kind as AnyKind};
 ghost use Rattle.window.specs.Span.{baseOf, widthOf, Within};
-ghost use Rattle.window.specs.View.{view, viewSound, Around, around};
+ghost use Rattle.window.specs.Sound.{viewSound};
+ghost use Rattle.window.specs.View.{view, Around, around};
 ghost use Rattle.window.specs.Beyond.{refusalNumber};
 
 pub mod span;
