@@ -1,0 +1,5 @@
+pub mod Fronts
+pub mod Counts
+pub mod Trips
+pub mod Widths
+pub mod Sending
