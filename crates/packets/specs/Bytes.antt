@@ -1,13 +1,11 @@
 -- The bytes of a packet, which packets may be written, and where their parts then stand.
-use mathlib.Core.Path.{_≡_}
-use mathlib.Core.Bool.{Bool, true, false, cond, not, _&&_, _||_}
+use mathlib.Core.Bool.{Bool, true, false, cond, not, _&&_}
 use mathlib.Core.List.{List, [], _∷_, _++_}
 use Prim.Native.Nat.{ℕ, _+_, _*_}
-use lib.Dec.{eqb, leb, ltb}
+use lib.Dec.{leb, ltb}
 use lib.ListN.{length}
 use Rattle.std.specs.declared.option.Option.{Option}
 use Rattle.std.specs.declared.option.Option.the-variants.{Some, None}
-use Rattle.std.specs.declared.result.Result.the-variants.{Ok}
 use Rattle.frame.specs.Length.{lengthBytes}
 use Rattle.frame.specs.Number.{numberBytes}
 use Rattle.frame.specs.Parts.{packetBytes}
@@ -18,7 +16,7 @@ use Rattle.topics.specs.Text.{every, isText}
 use Rattle.topics.specs.Names.{isTopicName, isTopicFilter}
 use Rattle.packets.specs.Filters.{Entry}
 use Rattle.packets.specs.Packet.{Content, connect, connack, publish, puback, pubrec, pubrel, pubcomp, subscribe, suback, unsubscribe, unsuback, pingreq, pingresp, disconnect}
-use Rattle.packets.specs.Reads.{protocolName, isCode, reads}
+use Rattle.packets.specs.Reads.{protocolName, isCode}
 
 -- ---- the bytes
 
@@ -164,7 +162,3 @@ placed (unsuback id) = unsuback id
 placed pingreq = pingreq
 placed pingresp = pingresp
 placed disconnect = disconnect
-
--- whatever is read is lawful
-abbrev pub ReadsLawful : Type 0
-ReadsLawful = (bs : List ℕ) (c : Content) → reads bs ≡ Ok c → lawful c ≡ true

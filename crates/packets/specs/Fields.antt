@@ -16,8 +16,12 @@ use Rattle.packets.specs.declared.packet.ReadError.{ReadError}
 use Rattle.packets.specs.declared.packet.ReadError.the-variants.{Bad}
 
 -- a bad field at a place
+abbrev pub BadAt : Field → ℕ → ReadError
+BadAt f place = Bad (record { field = f; place = place })
+
+-- a reading stops at a bad field
 abbrev pub bad : {A : Type 0} → Field → ℕ → Result A ReadError
-bad f place = Err (Bad (record { field = f; place = place }))
+bad f place = Err (BadAt f place)
 
 -- bytes are missing: the packet's end comes too early, at the packet's length
 abbrev pub missing : {A : Type 0} → List ℕ → ℕ → Result A ReadError
@@ -47,6 +51,10 @@ identified bs at (Some p) = cond (eqb (p .0) 0) (bad PacketIdentifier at) (Ok p)
 unfoldable pub identifierIn : List ℕ → ℕ → Result (ℕ × List ℕ) ReadError
 identifierIn bs at = identified bs at (numberIn bs)
 
+-- a packet identifier that nothing follows
+unfoldable pub onlyIdentifier : List ℕ → ℕ → Result ℕ ReadError
+onlyIdentifier bs at = onward (λ p. ended (p .1) (at + 2) (p .0)) (identifierIn bs at)
+
 -- so many bytes and what follows, if there are as many
 abbrev pub cut : ℕ → List ℕ → Option (List ℕ × List ℕ)
 cut n rest = cond (leb n (length rest)) (Some (take n rest, drop n rest)) None
@@ -75,10 +83,6 @@ past text at = at + 2 + length text
 
 -- ---- answers of the code with the bytes in place of the borrowed parts
 
-abbrev pub byteAndRest : Option (ℕ × RefT (List ℕ)) → Option (ℕ × List ℕ)
-byteAndRest None = None
-byteAndRest (Some p) = Some (p .0, p .1 .now)
-
 abbrev pub idAndRest : Result (ℕ × RefT (List ℕ)) ReadError → Result (ℕ × List ℕ) ReadError
 idAndRest (Ok p) = Ok (p .0, p .1 .now)
 idAndRest (Err e) = Err e
@@ -86,7 +90,3 @@ idAndRest (Err e) = Err e
 abbrev pub prefixAndRest : Option (RefT (List ℕ) × RefT (List ℕ)) → Option (List ℕ × List ℕ)
 prefixAndRest None = None
 prefixAndRest (Some p) = Some (p .0 .now, p .1 .now)
-
-abbrev pub textAndRest : Result (RefT (List ℕ) × RefT (List ℕ)) ReadError → Result (List ℕ × List ℕ) ReadError
-textAndRest (Ok p) = Ok (p .0 .now, p .1 .now)
-textAndRest (Err e) = Err e

@@ -1,8 +1,10 @@
 -- The filters of a SUBSCRIBE, each with a QoS byte, and of an UNSUBSCRIBE, without.
-use mathlib.Core.Bool.{Bool, true, false}
+use mathlib.Core.Bool.{Bool, true, false, cond}
 use mathlib.Core.List.{List, [], _∷_}
-use Prim.Native.Nat.{ℕ, zero, suc, _+_}
+use Prim.Native.Nat.{ℕ, zero, suc, _+_, _^_}
 use denote.Ref.{RefT}
+use lib.Dec.{ltb}
+use lib.ListN.{length}
 use Rattle.std.specs.declared.option.Option.{Option}
 use Rattle.std.specs.declared.option.Option.the-variants.{Some, None}
 use Rattle.std.specs.declared.result.Result.{Result}
@@ -77,9 +79,9 @@ abbrev pub firstFilters : Bool → ℕ → List ℕ → ℕ → List Entry
 firstFilters graded zero bs at = []
 firstFilters graded (suc n) bs at = heading (firstFilters graded n) (filterIn graded bs at)
 
--- the filters that a part and a count stand for
+-- the filters that a part and a count stand for; none where the part would end beyond the last index
 abbrev pub entriesOf : Filters → List Entry
-entriesOf f = firstFilters (f .«with_qos») (f .count) (f .part .now) (f .place)
+entriesOf f = cond (ltb (f .place + length (f .part .now)) (2 ^ 64)) (firstFilters (f .«with_qos») (f .count) (f .part .now) (f .place)) []
 
 -- the filter with an index, or none from the count on
 abbrev pub nth : ℕ → List Entry → Option Entry
@@ -104,3 +106,8 @@ found (Err e) = Err e
 abbrev pub counted : Bool → List ℕ → ℕ → Result ℕ ReadError → Result (List Entry) ReadError
 counted graded bs at (Ok n) = Ok (firstFilters graded n bs at)
 counted graded bs at (Err e) = Err e
+
+-- a part and a count stand for their filters
+abbrev pub told : Result Filters ReadError → Result (List Entry) ReadError
+told (Ok f) = Ok (entriesOf f)
+told (Err e) = Err e

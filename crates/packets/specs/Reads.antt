@@ -22,7 +22,7 @@ use Rattle.topics.specs.Text.{isText}
 use Rattle.topics.specs.Names.{isTopicName}
 use Rattle.packets.specs.declared.packet.ReadError.{ReadError}
 use Rattle.packets.specs.declared.packet.ReadError.the-variants.{Level, Bad}
-use Rattle.packets.specs.Fields.{bad, missing, onward, ended, byteIn, identifierIn, cut, textIn, past}
+use Rattle.packets.specs.Fields.{bad, missing, onward, ended, byteIn, identifierIn, onlyIdentifier, cut, textIn, past}
 use Rattle.packets.specs.Filters.{Entry, someFilters}
 use Rattle.packets.specs.Packet.{Content, connect, connack, publish, puback, pubrec, pubrel, pubcomp, subscribe, suback, unsubscribe, unsuback, pingreq, pingresp, disconnect}
 
@@ -154,9 +154,6 @@ subackIn bs at = onward (λ p. onward (λ cs. Ok (suback (p .0) cs)) (someCodes 
 
 -- ---- PUBACK, PUBREC, PUBREL, PUBCOMP and UNSUBACK: identifier
 
-unfoldable pub onlyIdentifier : List ℕ → ℕ → Result ℕ ReadError
-onlyIdentifier bs at = onward (λ p. ended (p .1) (at + 2) (p .0)) (identifierIn bs at)
-
 -- a packet of nothing but its identifier
 abbrev pub ackIn : (ℕ → Content) → List ℕ → ℕ → Result Content ReadError
 ackIn ack bs at = onward (λ id. Ok (ack id)) (onlyIdentifier bs at)
@@ -188,3 +185,10 @@ afterParts (Err e) = Err (Bad e)
 -- what bytes are read as
 unfoldable pub reads : List ℕ → Result Content ReadError
 reads bs = afterParts (partsIn bs)
+
+-- ---- answers of the code
+
+-- codes that pass are told as they stand
+abbrev pub passed : List ℕ → Result (Unit {0}) ReadError → Result (List ℕ) ReadError
+passed cs (Ok u) = Ok cs
+passed cs (Err e) = Err e
