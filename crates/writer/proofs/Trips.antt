@@ -30,10 +30,10 @@ use Rattle.topics.specs.Text.{every, isText}
 use Rattle.topics.specs.Names.{isTopicName, isTopicFilter}
 use Rattle.topics.proofs.NameFacts.{filter-parts}
 use Rattle.packets.specs.declared.packet.ReadError.{ReadError}
-use Rattle.packets.specs.Fields.{onward, identified, identifierIn, lengthPrefixed, textIn, judged, past, announced, cut}
+use Rattle.packets.specs.Fields.{onlyIdentifier, onward, identified, identifierIn, lengthPrefixed, textIn, judged, past, announced, cut}
 use Rattle.packets.specs.Filters.{Entry, Found, filterIn, filtersIn, someFilters, before}
 use Rattle.packets.specs.Packet.{Content, connect, connack, publish, puback, pubrec, pubrel, pubcomp, subscribe, suback, unsubscribe, unsuback, pingreq, pingresp, disconnect}
-use Rattle.packets.specs.Reads.{protocolName, isCode, bodyIn, afterParts, reads, connectIn, levelIn, flagsIn, keepAliveIn, clientIn, connackIn, returnCodeIn, publishIn, topicIn, numberedIn, payloadIn, afterTopic, subscribeIn, filtersOf, subackIn, codesIn, someCodes, onlyIdentifier, ackIn}
+use Rattle.packets.specs.Reads.{protocolName, isCode, bodyIn, afterParts, reads, connectIn, levelIn, flagsIn, keepAliveIn, clientIn, connackIn, returnCodeIn, publishIn, topicIn, numberedIn, payloadIn, afterTopic, subscribeIn, filtersOf, subackIn, codesIn, someCodes, ackIn}
 use Rattle.packets.specs.Bytes.{textBytes, idBytes, qosBytes, entryBytes, entriesBytes, bit, firstByte, bodyOf, bytesOf, isId, lawfulFlow, isAsked, lawfulEntries, upToEight, lawfulFields, lawful, bodyAt, placedFrom, placed}
 use Rattle.writer.specs.Laws.{RoundTrip}
 

@@ -2,7 +2,7 @@
 use mathlib.Core.Path.{_≡_, refl, sym, ap, subst, _∙_}
 use mathlib.Core.Bool.{Bool, true, false, cond, not, _&&_}
 use mathlib.Core.List.{List, [], _∷_, _++_, append-assoc}
-use Prim.Native.Nat.{ℕ, zero, suc, _+_, _-_, _*_, _/_, _%_, _≤_, _<_}
+use Prim.Native.Nat.{ℕ, zero, suc, _+_, _-_, _*_, _/_, _%_, _^_, _≤_, _<_}
 use native.Mathlib.Nat.{sub-zero}
 use native.Mathlib.Omega.{arith}
 use lib.Dec.{leb, eqb}
@@ -14,7 +14,7 @@ use Rattle.std.specs.declared.result.Result.{Result}
 use Rattle.std.specs.declared.result.Result.the-variants.{Ok, Err}
 use Rattle.std.specs.Results.{isOk}
 use Rattle.std.proofs.shelf.Lists.{append-nil, drop-all, drop-at, drop-drop, drop-more, length-push, length-take-le, take-at}
-use Rattle.std.proofs.shelf.Tests.{and-from, and-parts, and-right, le-leb, lt-leb, not-true}
+use Rattle.std.proofs.shelf.Tests.{and-from, and-parts, and-right, cond-false, cond-true, le-leb, le-ltb, lt-leb, lt-ltb, not-true}
 use Rattle.frame.specs.Number.{numberBytes, numberIn}
 use Rattle.topics.specs.declared.qos.Qos.{Qos}
 use Rattle.topics.specs.Qos.{qosNumber, qosOf}
@@ -22,7 +22,8 @@ use Rattle.topics.specs.Names.{isTopicFilter}
 use Rattle.topics.proofs.Qualities.{qos-law}
 use Rattle.packets.specs.declared.packet.ReadError.{ReadError}
 use Rattle.packets.specs.Fields.{lengthPrefixed, textIn}
-use Rattle.packets.specs.Filters.{Entry, Found, filterIn, firstFilters, heading}
+use Rattle.packets.specs.declared.packet.Filters.{Filters}
+use Rattle.packets.specs.Filters.{Entry, Found, entriesOf, filterIn, firstFilters, heading}
 use Rattle.packets.specs.Bytes.{entriesBytes, entryBytes, isAsked, lawfulEntries, qosBytes, textBytes, upToEight}
 use Rattle.writer.specs.Filters.{Begins, Spans, Width}
 use Rattle.writer.proofs.Trips.{foundAt, one-entry}
@@ -203,3 +204,13 @@ pub judged : (a g h : Bool) (es : List Entry) (part : List ℕ) (count used : �
 judged true g h [] part count used s = ap (λ k. true && upToEight k && cond g h (not h)) (sym (s .many))
 judged false g h [] part count used s = refl
 judged a g h (e ∷ es) part count used s = (λ i. a && upToEight (sym (s .many) i) && kinds g h e es (s .fitting) i)
+
+pub measured : (f : Filters) (count used : ℕ) → f .place + length (f .part .now) < 2 ^ 64 → Spans (firstFilters (f .«with_qos») (f .count) (f .part .now) (f .place)) (f .«with_qos») (f .part .now) count used
+    → Spans (entriesOf f) (f .«with_qos») (f .part .now) count used
+measured f count used h s =
+    subst (λ es. Spans es (f .«with_qos») (f .part .now) count used) (sym (cond-true _ _ _ (lt-ltb (f .place + length (f .part .now)) (2 ^ 64) h))) s
+
+pub beyond : (f : Filters) → 2 ^ 64 ≤ f .place + length (f .part .now) → Spans (entriesOf f) (f .«with_qos») (f .part .now) 0 0
+beyond f h =
+    let none : Spans [] (f .«with_qos») (f .part .now) 0 0 = record { many = refl; bytes = refl; room = omega arith; fitting = refl } in
+    subst (λ es. Spans es (f .«with_qos») (f .part .now) 0 0) (sym (cond-false _ _ _ (le-ltb (f .place + length (f .part .now)) (2 ^ 64) h))) none

@@ -7,7 +7,7 @@ use Rattle.std.specs.declared.result.Result.the-variants.{Ok}
 use Rattle.packets.specs.Filters.{Entry}
 use Rattle.packets.specs.Packet.{Content, connect, connack, publish, puback, pubrec, pubrel, pubcomp, subscribe, suback, unsubscribe, unsuback, pingreq, pingresp, disconnect}
 use Rattle.packets.specs.Reads.{reads}
-use Rattle.packets.specs.Bytes.{ReadsLawful, bytesOf, lawful, placed}
+use Rattle.packets.specs.Bytes.{bytesOf, lawful, placed}
 
 -- a lawful packet's bytes are read as that packet, its parts at the places that they have in the shortest form
 abbrev pub RoundTrip : Type 0
@@ -34,6 +34,10 @@ bare (unsuback id) = unsuback id
 bare pingreq = pingreq
 bare pingresp = pingresp
 bare disconnect = disconnect
+
+-- whatever is read is lawful
+abbrev pub ReadsLawful : Type 0
+ReadsLawful = (bs : List ℕ) (c : Content) → reads bs ≡ Ok c → lawful c ≡ true
 
 -- where only lawful packets are read, whatever is read, written again, reads back as a packet equal to it but for places
 abbrev pub Again : Type 0

@@ -7,10 +7,15 @@ use packets::packet::Filters;
 use topics::names::is_topic_filter;
 use topics::qos::Qos;
 
-// How many filters the part holds, and how many bytes they take.
+// How many filters the part holds, and how many bytes they take: none where the part would end beyond the last index.
 pub(crate) fn measure(filters: &Filters<'_>) -> (usize, usize)
     ensures answer { λ r. ⌜ Spans (entriesOf (now (filters .entry))) (now (filters .entry) .«with_qos») (now (now (filters .entry) .part)) (r .0) (r .1) ⌝ }
 {
+    let place = filters.place;
+    let room = usize::MAX - filters.part.len();
+    if place > room {
+        return (0, 0);
+    }
     scan(filters.part, filters.with_qos, filters.count)
 }
 
