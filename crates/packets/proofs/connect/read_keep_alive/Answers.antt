@@ -1,0 +1,29 @@
+use mathlib.Core.Path.{_≡_, refl, sym, ap, _∙_}
+use mathlib.Core.Logic.{_≢_}
+use mathlib.Core.Bool.{Bool, true, false, cond}
+use mathlib.Core.List.{List, [], _∷_}
+use Prim.Native.Nat.{ℕ, _+_, _-_, _*_, _/_, _%_, _≤_, _<_}
+use native.Mathlib.Omega.{arith}
+use lib.Dec.{eqb, leb}
+use lib.ListN.{length, getD, take, drop, length-take, length-drop}
+use borrow.Author.Tests.{ltb-true, ltb-false}
+use Rattle.std.specs.declared.option.Option.the-variants.{Some, None}
+use Rattle.std.specs.declared.result.Result.{Result}
+use Rattle.std.specs.declared.result.Result.the-variants.{Ok, Err}
+use Rattle.packets.proofs.Fronts.{rest1, rest2, by-byte, by-number, no-byte, no-number}
+use Rattle.packets.specs.Reads.{keepAliveIn, afterKeepAlive}
+use Rattle.packets.proofs.connect.read_keep_alive.Needs as need
+
+pub returns-in-rest : need.returns-in-rest
+unfolding keepAliveIn
+returns-in-rest c =
+    let bs = c .args .bytes .now in
+    let h : length bs < 2 = omega (arith, ltb-true, ltb-false) in
+    record { answer = no-number (afterKeepAlive bs (c .args .at)) bs h (ap (λ e. Err e) (c .missing .ensures .answer)) }
+
+pub returns-in-len2-up : need.returns-in-len2-up
+unfolding keepAliveIn
+returns-in-len2-up c =
+    let bs = c .args .bytes .now in
+    let h : 2 ≤ length bs = omega (arith, ltb-true, ltb-false) in
+    record { answer = by-number (afterKeepAlive bs (c .args .at)) bs h (c .read-client .ensures .answer) }

@@ -1,0 +1,35 @@
+use mathlib.Core.Path.{_≡_, refl, sym, ap, _∙_}
+use mathlib.Core.Logic.{_≢_}
+use mathlib.Core.Bool.{Bool, true, false, cond}
+use mathlib.Core.List.{List, [], _∷_}
+use Prim.Native.Nat.{ℕ, _+_, _-_, _*_, _/_, _%_, _≤_, _<_}
+use native.Mathlib.Omega.{arith}
+use lib.Dec.{eqb, leb}
+use lib.ListN.{length, getD, take, drop, length-take, length-drop}
+use borrow.Author.Tests.{ltb-true, ltb-false}
+use Rattle.std.specs.declared.option.Option.the-variants.{Some, None}
+use Rattle.std.specs.declared.result.Result.{Result}
+use Rattle.std.specs.declared.result.Result.the-variants.{Ok, Err}
+use Rattle.std.proofs.shelf.Results.{err-from-errBy}
+use Rattle.packets.proofs.Steps.{only-err, only-ok, ended-none, ended-some}
+use Rattle.packets.proofs.fields.only_identifier.Needs as need
+
+pub returns-in-Break-id : need.returns-in-Break-id
+returns-in-Break-id c =
+    let p = err-from-errBy (c .from-residual .result) (c .from-residual .ensures .1) in
+    record { answer = rw (p .1, p .2) (only-err (c .args .bytes .now) (c .args .at) (c .in-Break-id .ensures tt .answer)) }
+
+pub returns-then-is-empty : need.returns-then-is-empty
+returns-then-is-empty c =
+    record {
+      answer = ended-none (c .in-Continue-id .rest .now) (c .args .at + 2) (c .in-Continue-id .id) (c .if-is-empty .ensures tt)
+          ∙ only-ok (c .args .bytes .now) (c .args .at) (c .in-Continue-id .ensures tt .answer);
+    }
+
+pub returns-else-is-empty : need.returns-else-is-empty
+returns-else-is-empty c =
+    record {
+      answer = ap (λ e. Err e) (c .bad .ensures .answer)
+          ∙ ended-some (c .in-Continue-id .rest .now) (c .args .at + 2) (c .in-Continue-id .id) (c .if-is-empty .ensures tt)
+          ∙ only-ok (c .args .bytes .now) (c .args .at) (c .in-Continue-id .ensures tt .answer);
+    }

@@ -1,0 +1,35 @@
+use mathlib.Core.Path.{_≡_, refl, sym, ap, _∙_}
+use mathlib.Core.Logic.{_≢_}
+use mathlib.Core.Bool.{Bool, true, false, cond}
+use mathlib.Core.List.{List, [], _∷_}
+use Prim.Native.Nat.{ℕ, _+_, _-_, _*_, _/_, _%_, _≤_, _<_}
+use native.Mathlib.Omega.{arith}
+use lib.Dec.{eqb, leb}
+use lib.ListN.{length, getD, take, drop, length-take, length-drop}
+use borrow.Author.Tests.{ltb-true, ltb-false}
+use Rattle.std.specs.declared.option.Option.the-variants.{Some, None}
+use Rattle.std.specs.declared.result.Result.{Result}
+use Rattle.std.specs.declared.result.Result.the-variants.{Ok, Err}
+use Rattle.packets.specs.Reads.{isCode}
+use Rattle.packets.proofs.Steps.{codes-none, codes-bad, codes-more}
+use Rattle.packets.proofs.subscribe.+judge_some.Needs as need
+
+pub returns-in-empty : need.returns-in-empty
+returns-in-empty t c =
+    let cs = c .args .codes .now in
+    let h : length cs < 1 = omega (arith, ltb-true, ltb-false) in
+    record { answer = codes-none (c .args .left) cs (c .args .at) h }
+
+pub returns-then-not-is-code : need.returns-then-not-is-code
+returns-then-not-is-code t c =
+    let cs = c .args .codes .now in
+    let h : 1 ≤ length cs = omega (arith, ltb-true, ltb-false) in
+    let some : 0 < c .args .left = omega arith in
+    record { answer = ap (λ e. Err e) (c .bad-then-not-is-code .ensures .answer) ∙ codes-bad (c .args .left) cs (c .args .at) some h (sym (c .if-not-is-code .ensures tt .answer)) }
+
+pub returns-else-not-is-code : need.returns-else-not-is-code
+returns-else-not-is-code t c =
+    let cs = c .args .codes .now in
+    let h : 1 ≤ length cs = omega (arith, ltb-true, ltb-false) in
+    let some : 0 < c .args .left = omega arith in
+    record { answer = codes-more (c .args .left) cs (c .args .at) (c .judge-some .result) some h (sym (c .if-not-is-code .ensures tt .answer)) (c .judge-some .ensures .answer) }

@@ -1,0 +1,5 @@
+pub mod Fields
+pub mod Filters
+pub mod Packet
+pub mod Reads
+pub mod Bytes

@@ -1,0 +1,6 @@
+pub mod Fronts
+pub mod Counts
+pub mod Trips
+pub mod Again
+pub mod Widths
+pub mod Sending

@@ -1,0 +1,5 @@
+pub mod Out
+pub mod Filters
+pub mod Write
+pub mod Laws
+pub mod Examples
