@@ -16,11 +16,88 @@ def length(bs):
         n+=(bs[i]&127)<<(7*i)
         if bs[i]<128: return n,i+1
     return None
+class Bad(Exception):
+    """The first bad field of a packet: its number and place."""
+class Reader:
+    # fields in order; bytes that are missing are field 11 at the packet's length
+    def __init__(self,p,at): self.p=p; self.at=at
+    def need(self,n):
+        if len(self.p)-self.at<n: raise Bad(11,len(self.p))
+    def take(self,n):
+        self.need(n); self.at+=n
+        return self.p[self.at-n:self.at]
+    def id(self):
+        at=self.at; n=int.from_bytes(self.take(2),"big")
+        if n==0: raise Bad(7,at)
+        return n
+    def text(self,field,ok):
+        at=self.at; n=int.from_bytes(self.take(2),"big"); t=self.take(n)
+        if not ok(t): raise Bad(field,at)
+        return t,at
+    def end(self):
+        if self.at<len(self.p): raise Bad(11,self.at)
+def connect(r):
+    at=r.at
+    if r.take(6)!=b"\x00\x04MQTT": raise Bad(3,at)
+    if r.take(1)!=b"\x04": return "level"
+    at=r.at
+    if r.take(1)!=b"\x00": raise Bad(4,at)
+    r.take(2)
+    t,at=r.text(5,is_text); r.end()
+    return "CONNECT client %s at %d"%(esc(t),at)
+def connack(r):
+    at=r.at; present=r.take(1)[0]
+    if present>1: raise Bad(4,at)
+    at=r.at; code=r.take(1)[0]
+    if code>5: raise Bad(9,at)
+    r.end()
+    return "CONNACK present %d code %d"%(present,code)
+def hexa(b): return b.hex() if b else "-"
+def publish(r,flags):
+    q=flags>>1&3
+    t,at=r.text(6,is_name)
+    i=r.id() if q else 0
+    pat=r.at; payload=r.p[pat:]
+    if len(payload)>256: raise Bad(10,pat)
+    return "PUBLISH dup %d qos %d id %d topic %s at %d payload %s at %d"%(flags>>3,q,i,esc(t),at,hexa(payload),pat)
+def filters(r,name,graded):
+    i=r.id(); out=[]; r.need(1)
+    while r.at<len(r.p):
+        if len(out)==8: raise Bad(11,r.at)
+        t,at=r.text(8,is_filter); item=" %s at %d"%(esc(t),at)
+        if graded:
+            qat=r.at; q=r.take(1)[0]
+            if q>2: raise Bad(9,qat)
+            item+=" qos %d"%q
+        out.append(item)
+    return "%s id %d filters %d"%(name,i,len(out))+"".join(out)
+def suback(r):
+    i=r.id(); out=[]; r.need(1)
+    while r.at<len(r.p):
+        if len(out)==8: raise Bad(11,r.at)
+        at=r.at; c=r.take(1)[0]
+        if c>2 and c!=0x80: raise Bad(9,at)
+        out.append(" %d"%c)
+    return "SUBACK id %d codes %d"%(i,len(out))+"".join(out)
+def ack(r,name):
+    i=r.id(); r.end()
+    return "%s id %d"%(name,i)
 def dissect(p):
-    if not p or p[0] not in LEGAL: return "bad 1 0"
-    l=length(p[1:])
-    if l is None or l[0]>540 or l[0]!=len(p)-1-l[1]: return "bad 2 1"
-    return "%s %d"%(NAMES[(p[0]>>4)-1],l[0])
+    try:
+        if not p or p[0] not in LEGAL: raise Bad(1,0)
+        l=length(p[1:])
+        if l is None or l[0]>540 or l[0]!=len(p)-1-l[1]: raise Bad(2,1)
+        t=p[0]>>4; name=NAMES[t-1]; r=Reader(p,1+l[1])
+        if t==1: return connect(r)
+        if t==2: return connack(r)
+        if t==3: return publish(r,p[0]&15)
+        if t==8: return filters(r,name,True)
+        if t==9: return suback(r)
+        if t==10: return filters(r,name,False)
+        if t in (4,5,6,7,11): return ack(r,name)
+        r.end()
+        return name
+    except Bad as e: return "bad %d %d"%e.args
 def unesc(w):
     # only what esc writes is read
     out=bytearray(); i=0

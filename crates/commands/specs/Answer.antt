@@ -7,7 +7,7 @@ use Prim.Native.Nat.{ℕ}
 use lib.Chars.{codes}
 use Rattle.std.specs.declared.option.Option.{Option}
 use Rattle.std.specs.declared.option.Option.the-variants.{Some, None}
-use Rattle.frame.specs.Parts.{partsIn}
+use Rattle.packets.specs.Reads.{reads}
 use Rattle.lines.specs.Escape.{Bytes, escaped}
 use Rattle.lines.specs.Hex.{hexIn}
 use Rattle.topics.specs.Matching.{takes}
@@ -23,7 +23,7 @@ notUnderstood line = codes "? " ++ (escaped line ++ codes "\n")
 -- what the bytes are, if the word writes any
 abbrev pub dissectAnswer : Option (List ℕ) → List ℕ → List ℕ
 dissectAnswer None line = notUnderstood line
-dissectAnswer (Some bytes) line = dissectText (partsIn bytes)
+dissectAnswer (Some bytes) line = dissectText (reads bytes)
 
 -- whether a filter takes a topic; the filter is judged first
 abbrev pub verdict : List ℕ → List ℕ → List ℕ
