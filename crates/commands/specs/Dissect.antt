@@ -49,14 +49,20 @@ bit b = cond b 1 0
 abbrev pub ackText : List ℕ → ℕ → List ℕ
 ackText name id = name ++ (decimal id ++ codes "\n")
 
+-- the flags and the identifier of a PUBLISH, 0 where there is none
+abbrev pub publishHead : Bool → Qos → Option ℕ → List ℕ
+publishHead dup qos id = codes "PUBLISH dup " ++ (decimal (bit dup) ++ (codes " qos " ++ (decimal (qosNumber qos) ++ (codes " id " ++ decimal (valueOr id 0)))))
+
+-- its topic and its payload with their places
+abbrev pub publishParts : List ℕ → ℕ → List ℕ → ℕ → List ℕ
+publishParts topic topic-at payload payload-at =
+    codes " topic " ++ (escaped topic ++ (codes " at " ++ (decimal topic-at ++ (codes " payload " ++ (hexText payload ++ (codes " at " ++ (decimal payload-at ++ codes "\n")))))))
+
 -- a packet's type and content
 abbrev pub contentText : Content → List ℕ
 contentText (connect client at) = codes "CONNECT client " ++ (escaped client ++ (codes " at " ++ (decimal at ++ codes "\n")))
 contentText (connack present code) = codes "CONNACK present " ++ (decimal (bit present) ++ (codes " code " ++ (decimal code ++ codes "\n")))
-contentText (publish dup qos topic topic-at id payload payload-at) =
-    codes "PUBLISH dup " ++ (decimal (bit dup) ++ (codes " qos " ++ (decimal (qosNumber qos) ++ (codes " id " ++ (decimal (valueOr id 0)
-    ++ (codes " topic " ++ (escaped topic ++ (codes " at " ++ (decimal topic-at ++ (codes " payload " ++ (hexText payload
-    ++ (codes " at " ++ (decimal payload-at ++ codes "\n")))))))))))))
+contentText (publish dup qos topic topic-at id payload payload-at) = publishHead dup qos id ++ publishParts topic topic-at payload payload-at
 contentText (puback id) = ackText (codes "PUBACK id ") id
 contentText (pubrec id) = ackText (codes "PUBREC id ") id
 contentText (pubrel id) = ackText (codes "PUBREL id ") id

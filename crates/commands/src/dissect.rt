@@ -7,8 +7,7 @@ ghost use Rattle.std.specs.Of.String.{string-bytes};
 ghost use Rattle.packets.specs.Filters.{entriesOf, entryOf};
 ghost use Rattle.packets.specs.Packet.{connack, connect, content, publish, suback, subscribe, unsubscribe};
 ghost use Rattle.packets.specs.Reads.{reads};
-ghost use Rattle.commands.specs.Dissect.{bit, codeText, codesText, contentText, dissectText, entriesText, entryText, qosText};
-
+ghost use Rattle.commands.specs.Dissect.{bit, codeText, codesText, contentText, dissectText, entriesText, entryText, publishHead, publishParts, qosText};
 use lines::escape::escape;
 use lines::hex::hex_text;
 use packets::packet::Filter;
@@ -41,10 +40,19 @@ pub fn packet_text(heap: Global, packet: &Packet<'_>) -> Result<String, AllocErr
 {
     match *packet {
         Packet::Connect { client, client_at } => connect_text(heap, client, client_at),
-        Packet::ConnAck { session_present, code } => connack_text(heap, session_present, code),
-        Packet::Publish { dup, qos, topic, topic_at, id, payload, payload_at } => {
-            publish_text(heap, dup, qos, topic, topic_at, id, payload, payload_at)
-        }
+        Packet::ConnAck {
+            session_present,
+            code,
+        } => connack_text(heap, session_present, code),
+        Packet::Publish {
+            dup,
+            qos,
+            topic,
+            topic_at,
+            id,
+            payload,
+            payload_at,
+        } => { publish_text(heap, dup, qos, topic, topic_at, id, payload, payload_at) }
         Packet::PubAck { id } => format!(heap, "PUBACK id {id}\n"),
         Packet::PubRec { id } => format!(heap, "PUBREC id {id}\n"),
         Packet::PubRel { id } => format!(heap, "PUBREL id {id}\n"),
@@ -87,12 +95,37 @@ fn publish_text(
 ) -> Result<String, AllocError>
     ensures answer { λ r. ⌜ made r (λ text. string-bytes text ≡ contentText (publish dup qos (now (topic .entry)) «topic_at» id (now (payload .entry)) «payload_at»)) ⌝ }
 {
+    let head = publish_head(heap, dup, qos, id)?;
+    let parts = publish_parts(heap, topic, topic_at, payload, payload_at)?;
+    let text = format!(heap, "{head}{parts}")?;
+    Ok(text)
+}
+
+fn publish_head(heap: Global, dup: bool, qos: Qos, id: Option<u16>) -> Result<String, AllocError>
+    ensures answer { λ r. ⌜ made r (λ text. string-bytes text ≡ publishHead dup qos id) ⌝ }
+{
     let dup = bit_of(dup);
     let qos = qos.number();
     let id = id.unwrap_or(0);
+    let text = format!(heap, "PUBLISH dup {dup} qos {qos} id {id}")?;
+    Ok(text)
+}
+
+fn publish_parts(
+    heap: Global,
+    topic: &[u8],
+    topic_at: usize,
+    payload: &[u8],
+    payload_at: usize,
+) -> Result<String, AllocError>
+    ensures answer { λ r. ⌜ made r (λ text. string-bytes text ≡ publishParts (now (topic .entry)) «topic_at» (now (payload .entry)) «payload_at») ⌝ }
+{
     let topic = escape(heap, topic)?;
     let payload = hex_text(heap, payload)?;
-    let text = format!(heap, "PUBLISH dup {dup} qos {qos} id {id} topic {topic} at {topic_at} payload {payload} at {payload_at}\n")?;
+    let text = format!(
+        heap,
+        " topic {topic} at {topic_at} payload {payload} at {payload_at}\n"
+    )?;
     Ok(text)
 }
 
