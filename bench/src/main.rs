@@ -9,7 +9,7 @@ mod speed;
 mod stores;
 
 const FRAMES: usize = 1_000_000;
-const SCRIPTS: usize = 500;
+const SCRIPTS: usize = 1_000;
 
 fn main() {
     let seen = frames::compare_all(FRAMES);
@@ -17,4 +17,6 @@ fn main() {
     println!("whole frames by type 1 to 14: {:?}", &seen.by_type[1..]);
     println!("store scripts compared on table, journal and hash map, all equal: {:?}", stores::compare_all(SCRIPTS));
     speed::frames();
+    speed::stores(64);
+    speed::stores(560);
 }
