@@ -70,7 +70,7 @@ pub extern "C" fn merukpa_table(
     ensures answer { λ r. ⌜ Ran rows (now (script .entry)) (now (pool .entry)) (now (buffer .entry)) (now (answers .entry)) r (now (buffer .exit)) (now (answers .exit)) ⌝ }
 {
     match Table::new(heap, rows) {
-        Ok(mut table) => run_into(heap, &mut table, script, script_pool(pool), buffer, answers),
+        Ok(mut table) => run_into(heap, &mut table, script, pool, buffer, answers),
         Err(MakeError::Bad) => 1,
         Err(MakeError::NoMemory) => 2,
     }
