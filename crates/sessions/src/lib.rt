@@ -1,0 +1,3 @@
+// Session rows: their layout, views that borrow from them, and the edits that a broker makes.
+pub mod law;
+pub mod view;
