@@ -1,0 +1,7 @@
+// Message rows: their layout, views that borrow from them, and the edits that a broker makes.
+pub mod law;
+pub mod parts;
+pub mod target;
+#[cfg(test)]
+mod tests;
+pub mod view;
