@@ -1,4 +1,4 @@
-// Message rows: their layout, views that borrow from them, and the edits that a broker makes.
+// Message rows: their layout, and views that borrow from them.
 pub mod law;
 pub mod parts;
 pub mod target;

@@ -1,4 +1,4 @@
-// Session rows: their layout, views that borrow from them, and the edits that a broker makes.
+// Session rows: their layout, and views that borrow from them.
 pub mod law;
 #[cfg(test)]
 mod tests;
