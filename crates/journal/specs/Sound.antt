@@ -10,6 +10,7 @@ use Rattle.std.specs.Of.Vec.{vec-items}
 use Rattle.std.specs.shelf.Lists.{All, folded}
 use Rattle.std.proofs.shelf.Elements.{all-take}
 use Rattle.std.proofs.shelf.Tests.{ne-eqb}
+use Rattle.store.proofs.Memory.{held-short}
 use Rattle.store.specs.declared.kind.Kind.{Kind}
 use Rattle.store.specs.declared.kind.Kind.the-variants.{Session, Message}
 use Rattle.store.specs.Kind.{sameKind}
@@ -54,6 +55,6 @@ all-inside = each-change Inside (λ e. e .key .inside)
 
 pub journalSound : (j : Journal) → Sound (journalDisk j)
 journalSound j = record {
-  short = short-rows (changes j) (λ k n. []) (each-change Short (λ e. omega (arith, e .row .short, e .row .bytes .ok .0)) j) (λ k n. omega arith);
+  short = short-rows (changes j) (λ k n. []) (each-change Short (λ e. held-short (e .row)) j) (λ k n. omega arith);
   inside = rows-inside (changes j) (λ k n. []) (all-inside j) (λ k n l. refl);
 }

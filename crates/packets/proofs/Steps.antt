@@ -5,9 +5,8 @@ use mathlib.Core.List.{List, [], _∷_}
 use Prim.Native.Nat.{ℕ, zero, suc, _+_, _-_, _*_, _≤_, _<_}
 use native.Mathlib.Numerals.{add-one}
 use native.Mathlib.Omega.{arith}
-use lib.Dec.{eqb, leb}
+use lib.Dec.{eqb}
 use lib.ListN.{length, getD, take, drop}
-use Rattle.std.specs.declared.option.Option.{Option}
 use Rattle.std.specs.declared.option.Option.the-variants.{Some, None}
 use Rattle.std.specs.declared.result.Result.{Result}
 use Rattle.std.specs.declared.result.Result.the-variants.{Ok, Err}
@@ -16,11 +15,10 @@ use Rattle.std.proofs.shelf.Lists.{take-all}
 use Rattle.std.proofs.shelf.Tests.{eqb-true, le-leb, lt-leb}
 use Rattle.frame.specs.declared.field.Field.{Field}
 use Rattle.frame.specs.declared.field.Field.the-variants.{ProtocolName, End, QosOrCode}
-use Rattle.frame.specs.Number.{numberIn}
 use Rattle.topics.specs.declared.qos.Qos.{Qos}
 use Rattle.topics.specs.Qos.{qosOf}
 use Rattle.packets.specs.declared.packet.ReadError.{ReadError}
-use Rattle.packets.specs.Fields.{BadAt, bad, missing, onward, ended, identifierIn, onlyIdentifier, cut, announced, lengthPrefixed, judged, textIn, past}
+use Rattle.packets.specs.Fields.{BadAt, bad, onward, ended, identifierIn, onlyIdentifier, cut, announced, lengthPrefixed, judged, textIn, past}
 use Rattle.packets.specs.Filters.{Entry, Found, asked, filterIn, before, filtersIn, someFilters, heading, firstFilters, nth}
 use Rattle.packets.specs.Packet.{Content, suback}
 use Rattle.packets.specs.Reads.{protocolName, levelIn, afterName, connectIn, filtersOf, subscribeIn, isCode, codesIn, someCodes, subackIn, passed}

@@ -20,7 +20,7 @@ use topics::text::is_text;
 const MAX_RETURN_CODE: u8 = 5;
 
 // A CONNECT from its protocol name on.
-pub fn read_connect(bytes: &[u8], at: usize) -> Result<Packet<'_>, ReadError>
+pub(crate) fn read_connect(bytes: &[u8], at: usize) -> Result<Packet<'_>, ReadError>
     requires { ⌜ at + length (now bytes) < 2 ^ 64 ⌝ }
     ensures answer { λ r. ⌜ outcome r ≡ connectIn (now (bytes .entry)) at ⌝ }
 {
@@ -102,7 +102,7 @@ fn read_client(bytes: &[u8], at: usize) -> Result<Packet<'_>, ReadError>
 }
 
 // A CONNACK from its session present byte on.
-pub fn read_connack(bytes: &[u8], at: usize) -> Result<Packet<'_>, ReadError>
+pub(crate) fn read_connack(bytes: &[u8], at: usize) -> Result<Packet<'_>, ReadError>
     requires { ⌜ at + length (now bytes) < 2 ^ 64 ⌝ }
     ensures answer { λ r. ⌜ outcome r ≡ connackIn (now (bytes .entry)) at ⌝ }
 {

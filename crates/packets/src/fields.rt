@@ -12,14 +12,14 @@ use frame::field::BadField;
 use frame::field::Field;
 
 // A bad field.
-pub fn bad(field: Field, place: usize) -> ReadError
+pub(crate) fn bad(field: Field, place: usize) -> ReadError
     ensures answer { λ r. ⌜ r ≡ BadAt field place ⌝ }
 {
     ReadError::Bad(BadField { field, place })
 }
 
 // Bytes are missing: told at the packet's length.
-pub fn missing(bytes: &[u8], at: usize) -> ReadError
+pub(crate) fn missing(bytes: &[u8], at: usize) -> ReadError
     requires { ⌜ at + length (now bytes) < 2 ^ 64 ⌝ }
     ensures answer { λ r. ⌜ r ≡ BadAt Field.End (at + length (now (bytes .entry))) ⌝ }
 {
@@ -27,7 +27,7 @@ pub fn missing(bytes: &[u8], at: usize) -> ReadError
 }
 
 // The packet, if nothing is left over.
-pub fn ended<'a>(packet: Packet<'a>, rest: &[u8], at: usize) -> Result<Packet<'a>, ReadError>
+pub(crate) fn ended<'a>(packet: Packet<'a>, rest: &[u8], at: usize) -> Result<Packet<'a>, ReadError>
     ensures answer { λ r. ⌜ outcome r ≡ ended (now (rest .entry)) at (content (packet .entry)) ⌝ }
 {
     if rest.is_empty() {
@@ -38,7 +38,7 @@ pub fn ended<'a>(packet: Packet<'a>, rest: &[u8], at: usize) -> Result<Packet<'a
 }
 
 // A packet identifier and what follows.
-pub fn read_identifier(bytes: &[u8], at: usize) -> Result<(u16, &[u8]), ReadError>
+pub(crate) fn read_identifier(bytes: &[u8], at: usize) -> Result<(u16, &[u8]), ReadError>
     requires { ⌜ at + length (now bytes) < 2 ^ 64 ⌝ }
     ensures answer { λ r. ⌜ idAndRest r ≡ identifierIn (now (bytes .entry)) at ⌝ }
     ensures bound { λ r. ⌜ made r (λ p. 2 + length (now (p .1)) ≡ length (now (bytes .entry))) ⌝ }
@@ -56,7 +56,7 @@ pub fn read_identifier(bytes: &[u8], at: usize) -> Result<(u16, &[u8]), ReadErro
 }
 
 // A packet identifier that nothing follows.
-pub fn only_identifier(bytes: &[u8], at: usize) -> Result<u16, ReadError>
+pub(crate) fn only_identifier(bytes: &[u8], at: usize) -> Result<u16, ReadError>
     requires { ⌜ at + length (now bytes) < 2 ^ 64 ⌝ }
     ensures answer { λ r. ⌜ r ≡ onlyIdentifier (now (bytes .entry)) at ⌝ }
 {
@@ -69,7 +69,7 @@ pub fn only_identifier(bytes: &[u8], at: usize) -> Result<u16, ReadError>
 }
 
 // The bytes that a two-byte length announces and what follows, or none where they are not all there.
-pub fn length_prefixed(bytes: &[u8]) -> Option<(&[u8], &[u8])>
+pub(crate) fn length_prefixed(bytes: &[u8]) -> Option<(&[u8], &[u8])>
     ensures answer { λ r. ⌜ prefixAndRest r ≡ lengthPrefixed (now (bytes .entry)) ⌝ }
     ensures bound { λ r. ⌜ BySome r (Unit {0}) (λ p. 2 + length (now (p .0)) + length (now (p .1)) ≡ length (now (bytes .entry))) ⌝ }
 {

@@ -104,7 +104,11 @@ fn read_qos<'a>(
 }
 
 // One filter to eight, up to the packet's end.
-pub fn read_filters(with_qos: bool, bytes: &[u8], at: usize) -> Result<Filters<'_>, ReadError>
+pub(crate) fn read_filters(
+    with_qos: bool,
+    bytes: &[u8],
+    at: usize,
+) -> Result<Filters<'_>, ReadError>
     requires { ⌜ at + length (now bytes) < 2 ^ 64 ⌝ }
     ensures answer { λ r. ⌜ told r ≡ someFilters «with_qos» (now (bytes .entry)) at ⌝ }
 {

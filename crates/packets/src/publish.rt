@@ -16,7 +16,7 @@ use topics::names::is_topic_name;
 use topics::qos::Qos;
 
 // A PUBLISH from its topic on, with the flags of its first byte.
-pub fn read_publish(flags: u8, bytes: &[u8], at: usize) -> Result<Packet<'_>, ReadError>
+pub(crate) fn read_publish(flags: u8, bytes: &[u8], at: usize) -> Result<Packet<'_>, ReadError>
     requires { ⌜ at + length (now bytes) < 2 ^ 64 ⌝ }
     ensures answer { λ r. ⌜ outcome r ≡ publishIn flags (now (bytes .entry)) at ⌝ }
 {

@@ -19,7 +19,11 @@ use frame::field::Field;
 const REFUSED: u8 = 0x80;
 
 // A SUBSCRIBE, or without QoS bytes an UNSUBSCRIBE, from its identifier on.
-pub fn read_subscribe(with_qos: bool, bytes: &[u8], at: usize) -> Result<Packet<'_>, ReadError>
+pub(crate) fn read_subscribe(
+    with_qos: bool,
+    bytes: &[u8],
+    at: usize,
+) -> Result<Packet<'_>, ReadError>
     requires { ⌜ at + length (now bytes) < 2 ^ 64 ⌝ }
     ensures answer { λ r. ⌜ outcome r ≡ subscribeIn «with_qos» (now (bytes .entry)) at ⌝ }
 {
@@ -39,7 +43,7 @@ fn with_filters(with_qos: bool, id: u16, filters: Filters<'_>) -> Packet<'_>
 }
 
 // A SUBACK from its identifier on.
-pub fn read_suback(bytes: &[u8], at: usize) -> Result<Packet<'_>, ReadError>
+pub(crate) fn read_suback(bytes: &[u8], at: usize) -> Result<Packet<'_>, ReadError>
     requires { ⌜ at + length (now bytes) < 2 ^ 64 ⌝ }
     ensures answer { λ r. ⌜ outcome r ≡ subackIn (now (bytes .entry)) at ⌝ }
 {

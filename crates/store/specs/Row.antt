@@ -3,16 +3,16 @@ use mathlib.Core.Bool.{Bool, cond}
 use mathlib.Core.List.{List, _++_}
 use Prim.Native.Nat.{ℕ}
 use lib.Dec.{leb}
-use lib.ListN.{length, drop}
+use lib.ListN.{length, take, drop}
 use Rattle.std.specs.Options.{isSome}
 use Rattle.std.specs.Of.Vec.{vec-items}
 use Rattle.std.specs.declared.option.Option.{Option}
 use Rattle.std.specs.declared.option.Option.the-variants.{Some, None}
 use Rattle.store.specs.declared.row.RowBuffer.{RowBuffer}
 
--- the bytes that it holds; none where there is no row
+-- the bytes that it holds, the first of its memory; none where there is no row
 abbrev pub held : RowBuffer → List ℕ
-held b = vec-items (b .bytes)
+held b = take (b .count) (vec-items (b .bytes))
 
 -- a buffer below 560 bytes is refused, else the row's length comes
 abbrev pub readAnswer : List ℕ → List ℕ → Option ℕ

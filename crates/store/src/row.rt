@@ -1,13 +1,15 @@
 // Memory for one row.
+ghost use mathlib.Core.Path.{_≡_};
 ghost use Prim.Native.Nat.{_≤_};
-ghost use Rattle.std.specs.Of.Vec.{vec-cap, vec-len};
+ghost use Rattle.std.specs.Of.Vec.{vec-len};
 
 pub mod ops;
 
-// Up to 560 bytes, in memory that was got when it was made.
+// Up to 560 bytes, in memory that was got when it was made; the first `count` of them are the row.
 #[derive(Drop)]
 pub struct RowBuffer {
     bytes: Vec<u8>,
-    ghost room: { 560 ≤ vec-cap bytes },
-    ghost short: { vec-len bytes ≤ 560 },
+    count: usize,
+    ghost room: { vec-len bytes ≡ 560 },
+    ghost short: { count ≤ 560 },
 }

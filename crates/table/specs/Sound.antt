@@ -9,16 +9,14 @@ use Rattle.std.specs.Of.Vec.{vec-items}
 use Rattle.std.proofs.shelf.Tests.{cond-false, le-ltb}
 use Rattle.store.specs.declared.row.RowBuffer.{RowBuffer}
 use Rattle.store.specs.Row.{held}
+use Rattle.store.proofs.Memory.{held-short}
 use Rattle.store.specs.Disk.{Sound}
 use Rattle.table.specs.declared.Table.{Table}
 use Rattle.table.specs.Disk.{tableDisk}
 
-short-row : (r : RowBuffer) → length (held r) ≤ 560
-short-row r = omega (arith, r .short, r .bytes .ok .0)
-
 short-rows : (rs : List RowBuffer) (i : ℕ) → length (getD (map held rs) i []) ≤ 560
 short-rows [] i = omega arith
-short-rows (r ∷ rs) zero = short-row r
+short-rows (r ∷ rs) zero = held-short r
 short-rows (r ∷ rs) (suc i) = short-rows rs i
 
 short-cond : (t : Bool) (r : List ℕ) → length r ≤ 560 → length (cond t r []) ≤ 560

@@ -15,15 +15,15 @@ impl RowBuffer {
     pub fn new(heap: Global) -> Result<RowBuffer, AllocError>
         ensures answer { λ r. ⌜ made r (λ b. held b ≡ []) ⌝ }
     {
-        let bytes = Vec::with_capacity(heap, ROW_BYTES)?;
-        Ok(RowBuffer { bytes })
+        let bytes = Vec::from_elem(heap, 0u8, ROW_BYTES)?;
+        Ok(RowBuffer { bytes, count: 0 })
     }
 
     // How many bytes it holds; 0 where there is no row.
     pub fn len(&self) -> usize
         ensures answer { λ r. ⌜ r ≡ length (held (now (self .entry))) ⌝ }
     {
-        self.bytes.len()
+        self.count
     }
 
     // Copies the row to the buffer's start and answers its length; a buffer below 560 bytes is refused and stays.
@@ -34,8 +34,8 @@ impl RowBuffer {
         if buffer.len() < ROW_BYTES {
             return None;
         }
-        let n = self.bytes.len();
-        buffer[0..n].copy_from_slice(self.bytes.as_slice());
+        let n = self.count;
+        buffer[0..n].copy_from_slice(&self.bytes.as_slice()[0..n]);
         Some(n)
     }
 
@@ -47,8 +47,8 @@ impl RowBuffer {
         if row.len() > ROW_BYTES {
             return false;
         }
-        self.clear();
-        let _ = self.bytes.extend_from_slice(row);
+        self.bytes.as_mut_slice()[0..row.len()].copy_from_slice(row);
+        self.count = row.len();
         true
     }
 
@@ -56,6 +56,6 @@ impl RowBuffer {
     pub fn clear(&mut self)
         ensures after { λ _. ⌜ held (now (self .exit)) ≡ [] ⌝ }
     {
-        self.bytes.clear();
+        self.count = 0;
     }
 }

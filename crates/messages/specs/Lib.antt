@@ -1,0 +1,3 @@
+pub mod Target
+pub mod Message
+pub mod View

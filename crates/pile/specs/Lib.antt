@@ -1,0 +1,3 @@
+pub mod Base
+pub mod Pile
+pub mod Agreement
