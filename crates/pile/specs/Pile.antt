@@ -7,7 +7,8 @@ use Rattle.store.specs.Disk.{Disk, Sound}
 use Rattle.window.specs.declared.Window.{Window}
 use Rattle.window.specs.declared.span.Spans.{Spans}
 use Rattle.window.specs.Span.{Within}
-use Rattle.window.specs.View.{view, viewSound, Around, around}
+use Rattle.window.specs.Sound.{viewSound}
+use Rattle.window.specs.View.{view, Around, around}
 use Rattle.pile.specs.declared.base.Base.{Base}
 use Rattle.pile.specs.declared.Pile.{Pile}
 use Rattle.pile.specs.declared.Pile.the-variants.{Bare, One, Two, Three}
