@@ -91,7 +91,7 @@ unfoldable pub decode : List ℕ → Option Session
 decode bs = fromClient (textIn bs)
 
 -- lawful sessions come back from their rows, every row that is read is that of a lawful session,
--- and no row is longer than 553 bytes, which the longest identifier with eight of the longest filters takes
+-- and no row is longer than 553 bytes
 pub record SessionLaw : Type 0 where
   pub there : (s : Session) → lawfulSession s ≡ true → decode (encode s) ≡ Some s
   pub back : (bs : List ℕ) (s : Session) → decode bs ≡ Some s → (encode s ≡ bs) × (lawfulSession s ≡ true)

@@ -7,6 +7,7 @@ use Rattle.packets.specs.Filters.{Entry}
 use Rattle.packets.specs.Packet.{Content, connect, connack, publish, puback, pubrec, pubrel, pubcomp, subscribe, suback, unsubscribe, unsuback, pingreq, pingresp, disconnect}
 use Rattle.packets.specs.Bytes.{bodyAt, entryBytes, placed, placedFrom}
 use Rattle.writer.specs.Laws.{Again, bare, bareEntries}
+use Rattle.writer.proofs.Accepted.{reads-lawful}
 use Rattle.writer.proofs.Trips.{round-trip}
 
 same-entries : (es : List Entry) (at : ℕ) → bareEntries (placedFrom at es) ≡ bareEntries es
@@ -31,4 +32,4 @@ same pingresp = refl
 same disconnect = refl
 
 pub again : Again
-again sound bs c read = (placed c, round-trip c (sound bs c read), same c)
+again bs c bytes read = (placed c, round-trip c (reads-lawful bs c bytes read), same c)

@@ -2,7 +2,8 @@
 use mathlib.Core.Path.{_≡_}
 use mathlib.Core.Bool.{true}
 use mathlib.Core.List.{List, [], _∷_}
-use Prim.Native.Nat.{ℕ}
+use Prim.Native.Nat.{ℕ, _<_}
+use Rattle.std.specs.shelf.Lists.{All}
 use Rattle.std.specs.declared.result.Result.the-variants.{Ok}
 use Rattle.packets.specs.Filters.{Entry}
 use Rattle.packets.specs.Packet.{Content, connect, connack, publish, puback, pubrec, pubrel, pubcomp, subscribe, suback, unsubscribe, unsuback, pingreq, pingresp, disconnect}
@@ -35,10 +36,14 @@ bare pingreq = pingreq
 bare pingresp = pingresp
 bare disconnect = disconnect
 
--- whatever is read is lawful
-abbrev pub ReadsLawful : Type 0
-ReadsLawful = (bs : List ℕ) (c : Content) → reads bs ≡ Ok c → lawful c ≡ true
+-- all are bytes
+abbrev pub Bytes : List ℕ → Type 0
+Bytes bs = All (λ b. b < 256) bs
 
--- where only lawful packets are read, whatever is read, written again, reads back as a packet equal to it but for places
+-- whatever is read of bytes is lawful
+abbrev pub ReadsLawful : Type 0
+ReadsLawful = (bs : List ℕ) (c : Content) → Bytes bs → reads bs ≡ Ok c → lawful c ≡ true
+
+-- whatever is read, written again, reads back as a packet equal to it but for places
 abbrev pub Again : Type 0
-Again = ReadsLawful → (bs : List ℕ) (c : Content) → reads bs ≡ Ok c → (d : Content) × (reads (bytesOf c) ≡ Ok d) × (bare d ≡ bare c)
+Again = (bs : List ℕ) (c : Content) → Bytes bs → reads bs ≡ Ok c → (d : Content) × (reads (bytesOf c) ≡ Ok d) × (bare d ≡ bare c)
