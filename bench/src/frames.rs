@@ -5,7 +5,7 @@ use crate::{plain_split, proved};
 const TYPES: u8 = 14;
 
 // A remaining length in its shortest form, or in a longer one of `extra` more bytes, at most four in all.
-fn push_length(frame: &mut Vec<u8>, mut length: usize, extra: usize) {
+pub fn push_length(frame: &mut Vec<u8>, mut length: usize, extra: usize) {
     let mut count = 1;
     while length >= 128 {
         frame.push(length as u8 | 128);

@@ -19,6 +19,43 @@ pub fn split(bytes: &[u8]) -> SplitOutcome {
     unsafe { merukpa_split(bytes.as_ptr(), bytes.len()) }
 }
 
+// What a packet says but for its filters; numbers that a type does not have are 0.
+#[repr(C)]
+#[derive(Clone, Copy, PartialEq, Eq, Debug, Default)]
+pub struct ReadOutcome {
+    pub packet_type: u8,
+    pub field: u8,
+    pub flag: u8,
+    pub grade: u8,
+    pub id: u16,
+    pub place: usize,
+    pub length: usize,
+    pub payload_place: usize,
+    pub payload_length: usize,
+}
+
+#[repr(C)]
+#[derive(Clone, Copy, PartialEq, Eq, Debug, Default)]
+pub struct FilterOutcome {
+    pub present: u8,
+    pub qos: u8,
+    pub place: usize,
+    pub length: usize,
+}
+
+extern "C" {
+    fn merukpa_read(bytes: *const u8, length: usize) -> ReadOutcome;
+    fn merukpa_filter(bytes: *const u8, length: usize, index: usize) -> FilterOutcome;
+}
+
+pub fn read(bytes: &[u8]) -> ReadOutcome {
+    unsafe { merukpa_read(bytes.as_ptr(), bytes.len()) }
+}
+
+pub fn filter(bytes: &[u8], index: usize) -> FilterOutcome {
+    unsafe { merukpa_filter(bytes.as_ptr(), bytes.len(), index) }
+}
+
 // One of the two stores: makes it, performs the script, frees it.
 pub type RunScript = unsafe extern "C" fn(u32, *const u64, usize, *const u8, usize, *mut u8, usize, *mut u64, usize) -> u32;
 

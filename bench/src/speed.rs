@@ -2,7 +2,7 @@
 use crate::proved::ProvedStore;
 use crate::random::Random;
 use crate::script::Operation;
-use crate::{frames, plain_split, plain_store, proved};
+use crate::{frames, packets, plain_read, plain_split, plain_store, proved};
 use std::hint::black_box;
 use std::time::Instant;
 
@@ -54,6 +54,44 @@ fn frame_speed(name: &str, frames: &[Vec<u8>]) {
         plain.least / proved.least,
         plain.middle / proved.middle,
     );
+}
+
+// Both readers on the same packets; the plain one has its list of filters lent, so that neither allocates.
+fn packet_speed(name: &str, packets: &[Vec<u8>]) {
+    let found = std::cell::RefCell::new(Vec::with_capacity(8));
+    let [proved, plain] = times([
+        &|| {
+            for packet in packets {
+                black_box(proved::read(black_box(packet)));
+            }
+        },
+        &|| {
+            for packet in packets {
+                black_box(plain_read::read(black_box(packet), &mut found.borrow_mut()));
+            }
+        },
+    ]);
+    let each = packets.len() as f64;
+    println!(
+        "{name}: proved {:.1} ns a packet ({:.1} million a second), plain {:.1} ns, ratio {:.2} (middle turn {:.2})",
+        proved.least / each,
+        each * 1000.0 / proved.least,
+        plain.least / each,
+        plain.least / proved.least,
+        plain.middle / proved.middle,
+    );
+}
+
+pub fn packets() {
+    let mut random = Random(4);
+    let mut all: Vec<Vec<u8>> = (0..40_000).map(|_| packets::whole(&mut random)).collect();
+    all.retain(|packet| plain_read::read(packet, &mut Vec::new()).field == 0);
+    packet_speed("whole packets", &all);
+    let (texts, others): (Vec<_>, Vec<_>) = all.into_iter().partition(|packet| matches!(packet[0] >> 4, 1 | 3 | 8 | 10));
+    packet_speed("packets without a text", &others);
+    packet_speed("packets with texts", &texts);
+    let publish: Vec<_> = texts.into_iter().filter(|packet| packet[0] >> 4 == 3).collect();
+    packet_speed("PUBLISH alone", &publish);
 }
 
 pub fn frames() {

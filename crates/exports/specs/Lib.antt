@@ -1,3 +1,4 @@
 pub mod Split
 pub mod Operation
 pub mod Script
+pub mod Read

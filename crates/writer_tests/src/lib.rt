@@ -1,0 +1,3 @@
+// Examples of packets that are read and written again.
+#[cfg(test)]
+mod tests;
