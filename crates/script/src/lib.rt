@@ -1,3 +1,5 @@
-// Calls on any store, told as lines.
+// What the rig answers to a line of its script.
+pub mod answer;
 pub mod calls;
+pub mod command;
 pub mod texts;
