@@ -1,3 +1,2 @@
 pub mod Base
 pub mod Pile
-pub mod Agreement

@@ -1,5 +1,4 @@
 // The stores that a script can stack: a table or a journal under at most three windows.
-pub mod agreement;
 pub mod base;
 pub mod ops;
 
