@@ -1,4 +1,6 @@
 // Whether the rows of a store are those of a broker.
+#![tactic(auto)]
+
 use store::kind::Kind;
 
 /// What was found of a store's rows.

@@ -1,4 +1,6 @@
 // A table and a journal that are made for the same number of rows agree, whatever is asked of them.
+#![tactic(auto)]
+
 ghost use Rattle.std.specs.Prelude.{◌≡◌, IfOk};
 ghost use Rattle.agreement.specs.Calls.{Agrees, answer_of, answers, done, load_length, next, ran_after};
 

@@ -1,4 +1,6 @@
 // What the broker does: its links, replies, answers and refusals, and the meaning of its calls.
+#![tactic(auto)]
+
 pub mod answer;
 pub mod laws;
 pub mod link;

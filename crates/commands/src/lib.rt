@@ -1,4 +1,6 @@
 // What the service tool answers to a command line.
+#![tactic(auto)]
+
 pub mod answer;
 pub mod command;
 pub mod dissect;

@@ -1,4 +1,6 @@
 // How a packet's first byte, length bytes and body are told apart.
+#![tactic(auto)]
+
 pub mod field;
 pub mod first_byte;
 pub mod length;

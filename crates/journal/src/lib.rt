@@ -1,4 +1,6 @@
 // A store that is a log: its rows are the replay of the changes that it keeps.
+#![tactic(auto)]
+
 ghost use Rattle.std.specs.Prelude.{◌≡◌, ◌+◌, ◌*◌, ◌≤◌, length};
 ghost use Rattle.journal.specs.Changes.{live};
 ghost use Rattle.journal.specs.Log.{logged, places_of};

@@ -1,3 +1,5 @@
 // A journal, run by example.
+#![tactic(auto)]
+
 #[cfg(test)]
 mod tests;

@@ -1,4 +1,6 @@
 // Message rows: their layout, and views that borrow from them.
+#![tactic(auto)]
+
 pub mod law;
 pub mod parts;
 pub mod target;

@@ -1,4 +1,6 @@
 // The packets of MQTT 3.1.1, what they mean, and how they are read.
+#![tactic(auto)]
+
 mod connect;
 mod fields;
 pub mod filters;

@@ -1,4 +1,6 @@
 // The stores that a script can stack: a table or a journal under at most three windows.
+#![tactic(auto)]
+
 pub mod base;
 pub mod ops;
 

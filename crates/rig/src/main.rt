@@ -1,4 +1,6 @@
 // The rig: performs a script of store calls from standard input.
+#![tactic(auto)]
+
 use pile::Pile;
 use script::answer::{Turn, answer};
 use std::alloc::Global;

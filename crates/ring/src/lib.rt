@@ -1,4 +1,6 @@
 // A ring: entries that wait, first in first out. It holds two numbers; the memory for its entries is lent to each call.
+#![tactic(auto)]
+
 ghost use Rattle.std.specs.Prelude.{◌≡◌, ◌+◌, ◌%◌, ◌<◌, length, ◌==◌};
 ghost use Rattle.ring.specs.Ring.{waiting, empty, Pushed, Popped, Oldest, Got, Placed, Waits};
 

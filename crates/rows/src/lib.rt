@@ -1,4 +1,6 @@
 // What the layouts of all rows share: texts behind a length byte, and rows written piece by piece.
+#![tactic(auto)]
+
 pub mod text;
 pub mod write;
 

@@ -1,4 +1,6 @@
 // What the rig answers to a line of its script.
+#![tactic(auto)]
+
 pub mod answer;
 pub mod calls;
 pub mod command;

@@ -1,4 +1,6 @@
 // The technician's tool: answers command lines from its arguments or from standard input.
+#![tactic(auto)]
+
 use commands::answer::answer;
 use std::alloc::Global;
 use std::env;

@@ -1,1 +1,2 @@
 // Edits of session rows: subscriptions and unsubscriptions.
+#![tactic(auto)]

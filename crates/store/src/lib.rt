@@ -1,4 +1,6 @@
 // The session store: its calls, and its meaning as a disk of rows that every implementation shows.
+#![tactic(auto)]
+
 ghost use Rattle.std.specs.Prelude.{◌≡◌, ◌≤◌, IfOk};
 ghost use Rattle.std.specs.Borrow.{GName};
 ghost use Rattle.store.specs.Disk.{Disk, Sound, load_answer, load_buffer, put_answer, put_after, drop_answer, drop_after, powered};

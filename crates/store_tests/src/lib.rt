@@ -1,3 +1,5 @@
 // Stores on one another, run by example.
+#![tactic(auto)]
+
 #[cfg(test)]
 mod tests;

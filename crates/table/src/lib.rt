@@ -1,4 +1,6 @@
 // A store in memory, all of it got when the store is made.
+#![tactic(auto)]
+
 ghost use Rattle.std.specs.Prelude.{◌≡◌, ◌+◌, ◌≤◌, vec_len};
 ghost use Rattle.table.specs.Rows.{contents, standing};
 

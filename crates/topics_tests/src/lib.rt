@@ -1,3 +1,5 @@
 // The rules of `topics` by example, in a crate of their own: a crate with tests is proved twice.
+#![tactic(auto)]
+
 #[cfg(test)]
 mod tests;

@@ -1,4 +1,6 @@
 // A window on a store: a run of the numbers of each kind, as a store of its own. Windows stand on windows.
+#![tactic(auto)]
+
 ghost use Rattle.std.specs.Prelude.{◌≡◌, ◌+◌, ◌<◌, ◌≤◌, true, IfOk, Decides, MatchOption, MatchResult};
 ghost use Rattle.store.specs.declared.kind.Kind.{Kind as AnyKind};
 ghost use Rattle.window.specs.Span.{base_of, width_of, Within};
