@@ -16,8 +16,8 @@ pub trait Pick<T> {
 impl Ring {
     // Removes the entries that `pick` picks and answers how many went. It moves the others together in place.
     pub fn remove<T: Copy, P: Pick<T>>(&mut self, memory: &mut [T], pick: &P) -> usize
-        ensures answer { result ≡ length (filter (picked pick.now) (waiting self.old memory.old)) }
-        ensures after { Removed (picked pick.now) self.old memory.old self.new memory.new }
+        ensures answer { result ≡ length (filter (P.picked pick.now) (waiting self.old memory.old)) }
+        ensures after { Removed (P.picked pick.now) self.old memory.old self.new memory.new }
     {
         let size = memory.len();
         let count = self.count.min(size);

@@ -6,5 +6,5 @@ use Rattle.frame.proofs.first_byte.packet_type.Goals as goal
 pub returns : goal.returns
 unfolding type_number
 returns c = record {
-  answer = c.from-number.ensures.answer ∙ ap numbered c.type-number.ensures.answer ∙ number_back (type_in c.args.first);
+  answer = c.from_number.ensures.answer ∙ ap numbered c.type_number.ensures.answer ∙ number_back (type_in c.args.first);
 }

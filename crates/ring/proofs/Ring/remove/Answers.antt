@@ -10,8 +10,8 @@ loop-i-init g c = sifted_none _ _
 pub place-at-requires : goal.place-at-requires
 place-at-requires g c = omega (arith, c.loop-i.invariant.behind)
 
-pub overflow-add-stay : goal.overflow-add-stay
-overflow-add-stay g c = omega (arith, c.loop-i.invariant.behind)
+pub overflow_add-stay : goal.overflow_add-stay
+overflow_add-stay g c = omega (arith, c.loop-i.invariant.behind)
 
 pub loop-i-preserved : goal.loop-i-preserved
 loop-i-preserved g c =
@@ -36,8 +36,8 @@ loop-i-preserved g c =
           rw (w.memory-is, w.stay-is) now)
     ]
 
-pub overflow-sub-result : goal.overflow-sub-result
-overflow-sub-result g c = omega (arith, c.loop-i.invariant.behind)
+pub overflow_sub-result : goal.overflow_sub-result
+overflow_sub-result g c = omega (arith, c.loop-i.invariant.behind)
 
 pub returns : goal.returns
 returns g c =

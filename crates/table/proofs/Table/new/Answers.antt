@@ -3,12 +3,12 @@ use Rattle.table.specs.Rows.{contents}
 use Rattle.table.proofs.Places.{empty-counted, empty_disk_lem}
 use Rattle.table.proofs.Table.new.Goals as goal
 
-pub invariant-of-result : goal.invariant-of-result
-invariant-of-result c =
-    let e = c.in-ok-places.ensures.answer in
-    (e.1, (omega (arith, empty-counted (contents c.in-ok-places.places) 1152 e.0), tt))
+pub invariant_of-result : goal.invariant_of-result
+invariant_of-result c =
+    let e = c.in_ok-places.ensures.answer in
+    record { places = e.1; counted = omega (arith, empty-counted (contents c.in_ok-places.places) 1152 e.0) }
 
 pub returns : goal.returns
 returns c = record {
-  answer = (omega arith, empty_disk_lem (contents c.in-ok-places.places) 1152 c.args.rows c.in-ok-places.ensures.answer.0);
+  answer = (omega arith, empty_disk_lem (contents c.in_ok-places.places) 1152 c.args.rows c.in_ok-places.ensures.answer.0);
 }

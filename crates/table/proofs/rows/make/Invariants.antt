@@ -3,4 +3,4 @@ use Rattle.table.specs.Rows.{contents}
 use Rattle.table.proofs.rows.make.Given as goal
 
 abbrev pub invariant-loop-i : goal.invariant-loop-i
-invariant-loop-i l = (contents l.rows ≡ replicate l.-i []) × (vec_len l.rows ≡ l.-i) × (l.count ≤ vec_capacity l.rows)
+invariant-loop-i l = (contents l.rows ≡ replicate l._i []) × (vec_len l.rows ≡ l._i) × (l.count ≤ vec_capacity l.rows)

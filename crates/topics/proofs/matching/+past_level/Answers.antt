@@ -12,8 +12,8 @@ returns-in-len1-up t c =
 pub returns-in-empty : goal.returns-in-empty
 returns-in-empty t c = record { answer = past-empty c.args.bytes.now (omega (arith, ltb-true, ltb-false)); bound = omega arith }
 
-pub returns-in-empty·2 : goal.returns-in-empty·2
-returns-in-empty·2 t c =
+pub returns-in-empty-2 : goal.returns-in-empty-2
+returns-in-empty-2 t c =
     record {
       answer = past_slash c.args.bytes.now (omega (arith, ltb-true, ltb-false)) (omega (arith, ltb-true, ltb-false));
       bound = omega arith;

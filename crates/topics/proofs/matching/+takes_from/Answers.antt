@@ -5,8 +5,8 @@ use Rattle.topics.specs.Matching.{past_level, takes_from}
 use Rattle.topics.proofs.Steps.{length-past_plus, takes_plus, takes_step, takes-apart, takes_short, takes_end}
 use Rattle.topics.proofs.matching.+takes_from.Goals as goal
 
-pub takes-from-requires : goal.takes-from-requires
-takes-from-requires t c =
+pub takes_from-requires : goal.takes_from-requires
+takes_from-requires t c =
     let filter = length-past_plus c.args.start c.args.filter.now c.in-Plus.ensures.answer in
     let left : length c.past-level.result.now < length c.args.filter.now = rw c.past-level.ensures.answer filter in
     (search rules, tt)
@@ -37,8 +37,8 @@ returns-else-f-t t c =
           ∙ takes-apart c.args.start c.args.filter.now c.args.topic.now c.in-Plain.ensures.answer (omega (arith, ltb-true, ltb-false)) (omega (arith, ltb-true, ltb-false)) (λ h. omega (arith, ltb-true, ltb-false));
     }
 
-pub returns-in-default-empty : goal.returns-in-default-empty
-returns-in-default-empty t c =
+pub returns-in_default-empty : goal.returns-in_default-empty
+returns-in_default-empty t c =
     record {
       answer = c.takes-end.ensures.answer ∙ takes_end c.args.start c.args.filter.now c.args.topic.now c.in-Plain.ensures.answer (omega (arith, ltb-true, ltb-false));
     }

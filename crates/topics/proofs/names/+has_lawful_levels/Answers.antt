@@ -20,14 +20,14 @@ returns-then-start t c =
           ∙ lawful_plus_slash c.args.start c.args.filter.now (omega (arith, ltb-true, ltb-false)) (omega (arith, ltb-true, ltb-false)) (omega (arith, ltb-true, ltb-false));
     }
 
-pub returns-in-default : goal.returns-in-default
-returns-in-default t c =
+pub returns-in_default : goal.returns-in_default
+returns-in_default t c =
     record {
       answer = lawful_plus_byte c.args.start c.args.filter.now (omega (arith, ltb-true, ltb-false)) (omega (arith, ltb-true, ltb-false)) (λ h. omega (arith, ltb-true, ltb-false));
     }
 
-pub returns-in-default·2 : goal.returns-in-default·2
-returns-in-default·2 t c =
+pub returns-in_default-2 : goal.returns-in_default-2
+returns-in_default-2 t c =
     record { answer = lawful_hash_byte c.args.start c.args.filter.now (omega (arith, ltb-true, ltb-false)) (sym c.if-not-is-wildcard.ensures.answer) (λ h. omega (arith, ltb-true, ltb-false)) }
 
 pub returns-in-len1-up : goal.returns-in-len1-up

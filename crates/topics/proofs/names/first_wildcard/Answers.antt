@@ -7,7 +7,7 @@ use Rattle.topics.proofs.names.first_wildcard.Goals as goal
 
 pub loop-i-preserved : goal.loop-i-preserved
 loop-i-preserved c =
-    every_more (λ b. not (wildcard b)) c.args.bytes.now c.loop-i.i c.loop-i-test.true c.loop-i.invariant (not_from_false _ (sym c.if-is-wildcard.ensures.answer))
+    every_more (λ b. not (wildcard b)) c.args.bytes.now c.loop-i.i c.loop-i-test.true c.loop-i.invariant (not_from_false _ (sym c.if-is_wildcard.ensures.answer))
 
 pub returns : goal.returns
 returns c =

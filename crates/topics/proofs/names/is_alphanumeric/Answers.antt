@@ -7,11 +7,11 @@ use Rattle.topics.proofs.names.is_alphanumeric.Goals as goal
 
 pub loop-b-preserved : goal.loop-b-preserved
 loop-b-preserved c =
-    sym (every-step is_ascii_alphanumeric c.args.bytes.now c.loop-b.b-index c.loop-b-test.true (sym c.if-not-is-ascii-alphanumeric.ensures.value)) ∙ c.loop-b.invariant
+    sym (every-step is_ascii_alphanumeric c.args.bytes.now c.loop-b.b-index c.loop-b-test.true (sym c.if-not-is_ascii_alphanumeric.ensures.value)) ∙ c.loop-b.invariant
 
-pub returns-then-not-is-ascii-alphanumeric : goal.returns-then-not-is-ascii-alphanumeric
-returns-then-not-is-ascii-alphanumeric c =
-    record { answer = sym (every_stop is_ascii_alphanumeric c.args.bytes.now c.loop-b.b-index c.loop-b-test.true (sym c.if-not-is-ascii-alphanumeric.ensures.value)) ∙ c.loop-b.invariant }
+pub returns-then-not-is_ascii_alphanumeric : goal.returns-then-not-is_ascii_alphanumeric
+returns-then-not-is_ascii_alphanumeric c =
+    record { answer = sym (every_stop is_ascii_alphanumeric c.args.bytes.now c.loop-b.b-index c.loop-b-test.true (sym c.if-not-is_ascii_alphanumeric.ensures.value)) ∙ c.loop-b.invariant }
 
 pub returns : goal.returns
 returns c =

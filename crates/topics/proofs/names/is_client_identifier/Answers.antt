@@ -2,10 +2,10 @@ use Rattle.std.proofs.Common.{rules}
 use Rattle.topics.specs.Names.{is_client_id}
 use Rattle.topics.proofs.names.is_client_identifier.Goals as goal
 
-pub returns-then-is-sized : goal.returns-then-is-sized
+pub returns-then-is_sized : goal.returns-then-is_sized
 unfolding is_client_id
-returns-then-is-sized c = search rules
+returns-then-is_sized c = search rules
 
-pub returns-else-is-sized : goal.returns-else-is-sized
+pub returns-else-is_sized : goal.returns-else-is_sized
 unfolding is_client_id
-returns-else-is-sized c = search rules
+returns-else-is_sized c = search rules

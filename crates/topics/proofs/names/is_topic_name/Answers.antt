@@ -3,12 +3,12 @@ use Rattle.topics.specs.Names.{is_topic_name}
 use Rattle.topics.proofs.Wildcards.{first_wildcard}
 use Rattle.topics.proofs.names.is_topic_name.Goals as goal
 
-pub returns-then-is-text : goal.returns-then-is-text
+pub returns-then-is_text : goal.returns-then-is_text
 unfolding is_topic_name
-returns-then-is-text c =
-    let plain = first_wildcard c.args.bytes.now c.first-wildcard.result c.is-none.result c.first-wildcard.ensures.answer c.is-none.ensures in
+returns-then-is_text c =
+    let plain = first_wildcard c.args.bytes.now c.first_wildcard.result c.is_none.result c.first_wildcard.ensures.answer c.is_none.ensures in
     search rules
 
-pub returns-else-is-text : goal.returns-else-is-text
+pub returns-else-is_text : goal.returns-else-is_text
 unfolding is_topic_name
-returns-else-is-text c = search rules
+returns-else-is_text c = search rules

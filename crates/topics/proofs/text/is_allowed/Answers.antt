@@ -15,19 +15,19 @@ loop-c-preserved c =
       tt,
       tt,
       IsUtf8-past_char bs rest c.in-Some.c u step,
-      ap (λ b. b && every allowed (chars rest)) (sym (sym c.is-allowed-char.ensures.answer ∙ c.if-not-is-allowed-char.false))
+      ap (λ b. b && every allowed (chars rest)) (sym (sym c.is_allowed_char.ensures.answer ∙ c.if-not-is_allowed_char.false))
           ∙ sym (every-past bs rest c.in-Some.c u step)
           ∙ c.loop-c.invariant.3,
     )
 
-pub returns-then-not-is-allowed-char : goal.returns-then-not-is-allowed-char
-returns-then-not-is-allowed-char c =
+pub returns-then-not-is_allowed_char : goal.returns-then-not-is_allowed_char
+returns-then-not-is_allowed_char c =
     let bs = c.loop-c.c-iterator.rest.now in
     let rest = c.next.new.self.rest.now in
     let step = c.in-Some.ensures.steps.0 in
     record {
       answer =
-          ap (λ b. b && every allowed (chars rest)) (sym (sym c.is-allowed-char.ensures.answer ∙ c.if-not-is-allowed-char.true))
+          ap (λ b. b && every allowed (chars rest)) (sym (sym c.is_allowed_char.ensures.answer ∙ c.if-not-is_allowed_char.true))
           ∙ sym (every-past bs rest c.in-Some.c c.loop-c.invariant.2 step)
           ∙ c.loop-c.invariant.3;
     }

@@ -8,7 +8,7 @@ pub returns-in-Ok : goal.returns-in-Ok
 returns-in-Ok c =
     let came = c.in-Ok.ensures.cases in
     record {
-      answer = c.is-allowed.ensures.answer ∙ ap (λ bs. every allowed (chars bs)) came.0 ∙ text_utf8 c.args.bytes.now came.1;
+      answer = c.is_allowed.ensures.answer ∙ ap (λ bs. every allowed (chars bs)) came.0 ∙ text_utf8 c.args.bytes.now came.1;
     }
 
 pub returns-in-Err : goal.returns-in-Err

@@ -5,13 +5,13 @@ pub returns-in-Some : goal.returns-in-Some
 returns-in-Some g c =
     let w = c.args.self.now in
     let d = g.S.Store.disk w.below in
-    let e = g.S.Store.disk c.drop-row.new.self in
+    let e = g.S.Store.disk c.drop_row.new.self in
     let k = c.args.kind in
     let n = c.args.number in
     let at = c.in-Some.at in
     let p = c.in-Some.ensures.answer in
-    let r = c.drop-row.result in
-    let m = c.drop-row.ensures in
+    let r = c.drop_row.result in
+    let m = c.drop_row.ensures in
     record {
       answer = drop_answer_lem d w.spans k n at p.0 p.1 r m.answer;
       after = drop-after d w.spans k n at p.0 p.1 e r m.after;

@@ -6,7 +6,7 @@ pub returns-in-Ok : goal.returns-in-Ok
 returns-in-Ok g c =
     let disk = g.S.Store.disk in
     let rest = g.S.Store.rest in
-    let x = c.store·1.given in
+    let x = c.store-1.given in
     let last = c.apply.new.store in
     let first = c.args.store.now in
     let s = c.args.spans in
@@ -22,7 +22,7 @@ pub returns-in-Err : goal.returns-in-Err
 returns-in-Err g c =
     let disk = g.S.Store.disk in
     let rest = g.S.Store.rest in
-    let x = c.store·1.given in
+    let x = c.store-1.given in
     let last = c.apply.new.store in
     let first = c.args.store.now in
     let s = c.args.spans in

@@ -8,12 +8,12 @@ use Rattle.journal.specs.Disk.{changes, places, journal_disk}
 use Rattle.journal.proofs.Journals.{replay-appended, of_key, inside_key, drop-done, count_drop, same_disk}
 use Rattle.journal.proofs.disk.JournalStore.drop_row.Goals as goal
 
-pub invariant-of-self : goal.invariant-of-self
-invariant-of-self c =
+pub invariant_of-self : goal.invariant_of-self
+invariant_of-self c =
     let j = c.args.self.now in
     let n = count_drop (places j) (changes j) (change_of c.in-Some.key []) j.free (sym c.lacks.ensures ∙ c.if-lacks.false) refl in
     let e = ap (λ cs. length (live cs)) c.append.ensures.after in
-    (omega (arith, n, e, j.rows), (omega (arith, n, e, j.room, c.append.ensures.places), tt))
+    record { rows = omega (arith, n, e, j.rows); room = omega (arith, n, e, j.room, c.append.ensures.places) }
 
 pub returns : goal.returns
 returns c =

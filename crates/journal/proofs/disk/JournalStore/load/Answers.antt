@@ -13,7 +13,7 @@ returns c =
     let same = c.in-Some.ensures in
     let r = of_key (replay (changes j)) key c.args.kind c.args.number same in
     record {
-      answer = ap Ok (c.read.ensures.answer ∙ ap length r) ∙ load_done (journal_disk j) c.args.kind c.args.number c.args.buffer.now (inside_key made_limit key c.args.kind c.args.number same key.inside) c.if-buffer-lt-ROW-BYTES.false;
+      answer = ap Ok (c.read.ensures.answer ∙ ap length r) ∙ load_done (journal_disk j) c.args.kind c.args.number c.args.buffer.now (inside_key made_limit key c.args.kind c.args.number same key.inside) c.if-buffer-lt-ROW_BYTES.false;
       bound = omega (arith, c.read.ensures.answer, (journal_sound j).short key.kind key.number);
       buffer = c.read.ensures.buffer ∙ ap (λ row. row ++ drop (length row) c.args.buffer.now) r;
     }

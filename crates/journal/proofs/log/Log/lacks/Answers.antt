@@ -3,6 +3,6 @@ use Rattle.journal.proofs.log.Log.lacks.Goals as goal
 
 pub returns : goal.returns
 returns c =
-    none_tells _ c.find.result _ c.is-none.result
+    none_tells _ c.find.result _ c.is_none.result
     (found_tells c.args.self.now c.args.key c.slot.result c.find.result c.slot.ensures.value c.find.ensures)
-    c.is-none.ensures
+    c.is_none.ensures
