@@ -26,10 +26,10 @@ pub fn unescape(heap: Global, text: &[u8]) -> Result<Vec<u8>, LineError>
     if text.is_empty() {
         return Err(LineError::Malformed);
     }
-    if text == b"-" {
+    if text == b"-".as_slice() {
         return Ok(Vec::new(heap));
     }
-    if text == b"\\x2d" {
+    if text == b"\\x2d".as_slice() {
         return Ok(vec![in heap; b'-']?);
     }
     unescape_each(heap, text)

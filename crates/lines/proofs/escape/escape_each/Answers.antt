@@ -7,7 +7,7 @@ use Rattle.lines.proofs.escape.escape_each.Goals as goal
 
 pub loop-byte-preserved : goal.loop-byte-preserved
 loop-byte-preserved c =
-    c.in-ok-push-escaped.ensures.after ∙ ap (λ l. l ++ escaped_byte (get_or c.args.bytes.now c.loop-byte.byte-index 0)) c.loop-byte.invariant
+    c.in_ok-push_escaped.ensures.after ∙ ap (λ l. l ++ escaped_byte (get_or c.args.bytes.now c.loop-byte.byte-index 0)) c.loop-byte.invariant
     ∙ sym (each_more escaped_byte c.args.bytes.now c.loop-byte.byte-index c.loop-byte-test.true)
 
 pub returns : goal.returns

@@ -2,16 +2,16 @@ use Rattle.std.proofs.Common.{◌≡◌, ℕ, true, false, sym, ap, ◌∙◌, a
 use Rattle.lines.specs.Escape.{plain}
 use Rattle.lines.proofs.Escapes.{code_known}
 use Rattle.lines.proofs.escape.read_code.Goals as goal
-use Rattle.lines.proofs.escape.read_code.Goals.{then-digit-of-high-via-then-digit-of-high, then-digit-of-high-via-else-digit-of-high+then-digit-of-low, then-digit-of-high-via-else-digit-of-high+else-digit-of-low+then-is-plain}
+use Rattle.lines.proofs.escape.read_code.Goals.{then-digit_of-high-via-then-digit_of-high, then-digit_of-high-via-else-digit_of-high+then-digit_of-low, then-digit_of-high-via-else-digit_of-high+else-digit_of-low+then-is_plain}
 
-pub returns-then-digit-of-high : goal.returns-then-digit-of-high
-returns-then-digit-of-high c = record {
+pub returns-then-digit_of-high : goal.returns-then-digit_of-high
+returns-then-digit_of-high c = record {
   answer = λ b small other digits.
       let k = code_known c.args.high c.args.low c.in-Some-Some.h c.in-Some-Some.l b c.in-Some-Some.ensures.answer c.in-Some-Some.ensures'.answer small digits in
-      elim c.then-digit-of-high.branch [
-        | then-digit-of-high-via-then-digit-of-high w ↦ w.if-digit-of-high.true (c.digit-of.ensures.answer ∙ k.high_is)
-        | then-digit-of-high-via-else-digit-of-high+then-digit-of-low w ↦ w.if-digit-of-low.true (w.digit-of-else-digit-of-high.ensures.answer ∙ k.low-is)
-        | then-digit-of-high-via-else-digit-of-high+else-digit-of-low+then-is-plain w ↦
+      elim c.then-digit_of-high.branch [
+        | then-digit_of-high-via-then-digit_of-high w ↦ w.if-digit_of-high.true (c.digit_of.ensures.answer ∙ k.high_is)
+        | then-digit_of-high-via-else-digit_of-high+then-digit_of-low w ↦ w.if-digit_of-low.true (w.digit_of-else-digit_of-high.ensures.answer ∙ k.low-is)
+        | then-digit_of-high-via-else-digit_of-high+else-digit_of-low+then-is_plain w ↦
             (let clash : true ≡ false = sym w.if-is-plain.true ∙ w.is-plain.ensures.answer ∙ ap plain k.byte-is ∙ other in
             let z : ◌≡◌ {A = ℕ} 0 1 = cc in omega arith)
       ];

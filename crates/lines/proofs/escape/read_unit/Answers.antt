@@ -2,7 +2,7 @@ use Rattle.std.proofs.Common.{◌≡◌, ℕ, ◌≤◌, true, false, length, ge
 use Rattle.lines.specs.Escape.{plain}
 use Rattle.lines.proofs.Escapes.{plain-front, code_front, no_unit}
 use Rattle.lines.proofs.escape.read_unit.Goals as goal
-use Rattle.lines.proofs.escape.read_unit.Goals.{in-default-via-then-text-lt1, in-default-via-in-len1-up+else-is-plain+then-text-lt4, in-default-via-in-len1-up+else-is-plain+else-text-lt4+in-92·+in-default·, in-default-via-in-len1-up+else-is-plain+else-text-lt4+in-default·}
+use Rattle.lines.proofs.escape.read_unit.Goals.{in_default-via-then-text-lt1, in_default-via-in-len1-up+else-is_plain+then-text-lt4, in-default-via-in-len1-up+else-is-plain+else-text-lt4+in-92·+in-default·, in-default-via-in-len1-up+else-is-plain+else-text-lt4+in-default·}
 
 -- a test that is true and false
 both : {A : Type 0} (b : ℕ) → false ≡ plain b → plain b ≡ true → A
@@ -10,7 +10,7 @@ both b f t = let z : ◌≡◌ {A = ℕ} 0 1 = cc in absurd (omega arith)
 
 pub returns-in-len1-up : goal.returns-in-len1-up
 returns-in-len1-up c = record {
-  answer = (plain-front c.args.text.now (omega (arith, ltb-true, ltb-false)) (sym c.if-is-plain.ensures.answer), omega (arith, c.type-inv.text 0));
+  answer = (plain-front c.args.text.now (omega (arith, ltb-true, ltb-false)) (sym c.if-is_plain.ensures.answer), omega (arith, c.type_inv.text 0));
 }
 
 pub returns-in-Some : goal.returns-in-Some
@@ -22,23 +22,23 @@ returns-in-Some c =
 
 pub returns-in-None : goal.returns-in-None
 returns-in-None c = record {
-  answer = no_unit c.args.text.now (λ _ p. both (get_or c.args.text.now 0 0) c.if-is-plain.ensures.answer p) (λ _ _ _. c.in-None.ensures.answer);
+  answer = no_unit c.args.text.now (λ _ p. both (get_or c.args.text.now 0 0) c.if-is_plain.ensures.answer p) (λ _ _ _. c.in-None.ensures.answer);
 }
 
-pub returns-in-default : goal.returns-in-default
-returns-in-default c =
+pub returns-in_default : goal.returns-in_default
+returns-in_default c =
     let text = c.args.text.now in
     record {
       answer = no_unit text
           (λ some p. elim c.in-default.branch [
-            | in-default-via-then-text-lt1 w ↦ omega (arith, ltb-true, ltb-false)
-            | in-default-via-in-len1-up+else-is-plain+then-text-lt4 w ↦ both (get_or text 0 0) w.if-is-plain.ensures.answer p
-            | in-default-via-in-len1-up+else-is-plain+else-text-lt4+in-92·+in-default· w ↦ both (get_or text 0 0) w.if-is-plain.ensures.answer p
-            | in-default-via-in-len1-up+else-is-plain+else-text-lt4+in-default· w ↦ both (get_or text 0 0) w.if-is-plain.ensures.answer p
+            | in_default-via-then-text-lt1 w ↦ omega (arith, ltb-true, ltb-false)
+            | in_default-via-in-len1-up+else-is_plain+then-text-lt4 w ↦ both (get_or text 0 0) w.if-is_plain.ensures.answer p
+            | in-default-via-in-len1-up+else-is-plain+else-text-lt4+in-92·+in-default· w ↦ both (get_or text 0 0) w.if-is_plain.ensures.answer p
+            | in-default-via-in-len1-up+else-is-plain+else-text-lt4+in-default· w ↦ both (get_or text 0 0) w.if-is_plain.ensures.answer p
           ])
           (λ four slash x b h n e. elim c.in-default.branch [
-            | in-default-via-then-text-lt1 w ↦ omega (arith, ltb-true, ltb-false)
-            | in-default-via-in-len1-up+else-is-plain+then-text-lt4 w ↦ omega (arith, ltb-true, ltb-false)
+            | in_default-via-then-text-lt1 w ↦ omega (arith, ltb-true, ltb-false)
+            | in_default-via-in-len1-up+else-is_plain+then-text-lt4 w ↦ omega (arith, ltb-true, ltb-false)
             | in-default-via-in-len1-up+else-is-plain+else-text-lt4+in-92·+in-default· w ↦ omega (arith, ltb-true, ltb-false)
             | in-default-via-in-len1-up+else-is-plain+else-text-lt4+in-default· w ↦ omega (arith, ltb-true, ltb-false)
           ]);

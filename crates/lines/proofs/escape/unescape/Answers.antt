@@ -8,8 +8,8 @@ use Rattle.lines.specs.Escape.{Bytes, escaped, Unescaped, Spelled}
 use Rattle.lines.proofs.Escapes.{not-empty, read-each, none_each}
 use Rattle.lines.proofs.escape.unescape.Goals as goal
 
-pub returns-then-is-empty : goal.returns-then-is-empty
-returns-then-is-empty c = record { answer = λ bs h e. not-empty bs c.args.text.now h (grind (arith, nat_tests)) e }
+pub returns-then-is_empty : goal.returns-then-is_empty
+returns-then-is_empty c = record { answer = λ bs h e. not-empty bs c.args.text.now h (grind (arith, nat_tests)) e }
 
 pub returns-then-eq : goal.returns-then-eq
 returns-then-eq c = record {
@@ -22,8 +22,8 @@ returns-then-eq c = record {
 pub returns-then-eq-2 : goal.returns-then-eq-2
 returns-then-eq-2 c = record {
   answer = (
-    ap escaped c.in-ok-vec.ensures.items ∙ sym ((slice_eq-Decides Decides-eqb _ _ _ c.eq-2.ensures).0 c.if-eq-2.true),
-    subst (λ l. Bytes l) (sym c.in-ok-vec.ensures.items) (lit< tt, tt),
+    ap escaped c.in_ok-vec.ensures.items ∙ sym ((slice_eq-Decides Decides-eqb _ _ _ c.eq-2.ensures).0 c.if-eq-2.true),
+    subst (λ l. Bytes l) (sym c.in_ok-vec.ensures.items) (lit< tt, tt),
   );
 }
 

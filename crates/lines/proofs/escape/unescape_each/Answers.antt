@@ -7,10 +7,10 @@ use Rattle.lines.specs.Escape.{escaped_byte, Bytes}
 use Rattle.lines.proofs.Escapes.{no_bytes, spelled_more, unit_shorter, all_spelled}
 use Rattle.lines.proofs.escape.unescape_each.Goals as goal
 
-pub returns-in-default : goal.returns-in-default
-returns-in-default c = record {
+pub returns-in_default : goal.returns-in_default
+returns-in_default c = record {
   answer = λ bs h e.
-      no_bytes c.args.text.now bs (vec_items c.loop-rest.bytes) c.loop-rest.rest.now h c.loop-rest.invariant.1 c.loop-rest.invariant.0 (grind (arith, nat_tests)) c.in-default.ensures.answer e;
+      no_bytes c.args.text.now bs (vec_items c.loop-rest.bytes) c.loop-rest.rest.now h c.loop-rest.invariant.1 c.loop-rest.invariant.0 (grind (arith, nat_tests)) c.in_default.ensures.answer e;
 }
 
 pub loop-rest-smaller : goal.loop-rest-smaller
@@ -18,7 +18,7 @@ loop-rest-smaller c = unit_shorter c.in-Some.byte c.in-Some.more.now c.loop-rest
 
 pub loop-rest-preserved : goal.loop-rest-preserved
 loop-rest-preserved c =
-    let items = c.in-ok-push.ensures.items in
+    let items = c.in_ok-push.ensures.items in
     let xs = vec_items c.loop-rest.bytes in
     let b = c.in-Some.byte in (
       ap (λ l. each escaped_byte l ++ c.in-Some.more.now) items ∙ spelled_more xs b c.loop-rest.rest.now c.in-Some.more.now c.args.text.now c.in-Some.ensures.answer.0 c.loop-rest.invariant.0,

@@ -8,7 +8,7 @@ use Rattle.lines.proofs.hex.hex_text.Goals as goal
 
 pub loop-byte-preserved : goal.loop-byte-preserved
 loop-byte-preserved c =
-    c.in-ok-push-byte.ensures.after ∙ ap (λ l. l ++ byte_hex (get_or c.args.bytes.now c.loop-byte.byte-index 0)) c.loop-byte.invariant
+    c.in_ok-push_byte.ensures.after ∙ ap (λ l. l ++ byte_hex (get_or c.args.bytes.now c.loop-byte.byte-index 0)) c.loop-byte.invariant
     ∙ sym (each_more byte_hex c.args.bytes.now c.loop-byte.byte-index c.loop-byte-test.true)
 
 pub returns : goal.returns

@@ -6,8 +6,8 @@ pub loop-rest-preserved : goal.loop-rest-preserved
 loop-rest-preserved c =
     skip_more c.loop-rest.rest.now c.args.line.now (omega (arith, ltb-true, ltb-false)) (omega (arith, ltb-true, ltb-false)) c.loop-rest.invariant
 
-pub returns-in-default : goal.returns-in-default
-returns-in-default c = record { answer = skip_done c.loop-rest.rest.now (λ h e. omega (arith, ltb-true, ltb-false)) ∙ c.loop-rest.invariant }
+pub returns-in_default : goal.returns-in_default
+returns-in_default c = record { answer = skip_done c.loop-rest.rest.now (λ h e. omega (arith, ltb-true, ltb-false)) ∙ c.loop-rest.invariant }
 
-pub returns-in-default·2 : goal.returns-in-default·2
-returns-in-default·2 c = record { answer = skip_done c.loop-rest.rest.now (λ h e. omega (arith, ltb-true, ltb-false)) ∙ c.loop-rest.invariant }
+pub returns-in_default-2 : goal.returns-in_default-2
+returns-in_default-2 c = record { answer = skip_done c.loop-rest.rest.now (λ h e. omega (arith, ltb-true, ltb-false)) ∙ c.loop-rest.invariant }

@@ -1,4 +1,4 @@
 use Rattle.packets.proofs.filters.+count_filters.Given as goal
 
-abbrev pub decreases-count-filters : goal.decreases-count-filters
-decreases-count-filters l = l.left
+abbrev pub decreases-count_filters : goal.decreases-count_filters
+decreases-count_filters l = l.left

@@ -5,7 +5,7 @@ use Rattle.topics.proofs.matching.+past_level.Goals as goal
 pub returns-in-len1-up : goal.returns-in-len1-up
 returns-in-len1-up t c =
     record {
-      answer = c.past-level.ensures.answer ∙ past_byte c.args.bytes.now (omega (arith, ltb-true, ltb-false)) (λ h. omega (arith, ltb-true, ltb-false));
+      answer = c.past_level.ensures.answer ∙ past_byte c.args.bytes.now (omega (arith, ltb-true, ltb-false)) (λ h. omega (arith, ltb-true, ltb-false));
       bound = search rules;
     }
 

@@ -8,16 +8,16 @@ use Rattle.topics.proofs.matching.+takes_from.Goals as goal
 pub takes_from-requires : goal.takes_from-requires
 takes_from-requires t c =
     let filter = length-past_plus c.args.start c.args.filter.now c.in-Plus.ensures.answer in
-    let left : length c.past-level.result.now < length c.args.filter.now = rw c.past-level.ensures.answer filter in
+    let left : length c.past_level.result.now < length c.args.filter.now = rw c.past_level.ensures.answer filter in
     (search rules, tt)
 
 pub returns-in-Plus : goal.returns-in-Plus
 returns-in-Plus t c =
     record {
       answer =
-          c.takes-from.ensures.answer
-          ∙ ap (λ f. takes_from false (levels f) (levels c.past-level-in-Plus.result.now)) c.past-level.ensures.answer
-          ∙ ap (λ t. takes_from false (levels (past_level c.args.filter.now)) (levels t)) c.past-level-in-Plus.ensures.answer
+          c.takes_from.ensures.answer
+          ∙ ap (λ f. takes_from false (levels f) (levels c.past_level-in-Plus.result.now)) c.past_level.ensures.answer
+          ∙ ap (λ t. takes_from false (levels (past_level c.args.filter.now)) (levels t)) c.past_level-in-Plus.ensures.answer
           ∙ takes_plus c.args.start c.args.filter.now c.args.topic.now c.in-Plus.ensures.answer;
     }
 
@@ -25,7 +25,7 @@ pub returns-then-f-t : goal.returns-then-f-t
 returns-then-f-t t c =
     record {
       answer =
-          c.takes-from-then-f-t.ensures.answer
+          c.takes_from-then-f-t.ensures.answer
           ∙ takes_step c.args.start c.args.filter.now c.args.topic.now c.in-Plain.ensures.answer (omega (arith, ltb-true, ltb-false)) (omega (arith, ltb-true, ltb-false)) (omega (arith, ltb-true, ltb-false));
     }
 
@@ -40,7 +40,7 @@ returns-else-f-t t c =
 pub returns-in_default-empty : goal.returns-in_default-empty
 returns-in_default-empty t c =
     record {
-      answer = c.takes-end.ensures.answer ∙ takes_end c.args.start c.args.filter.now c.args.topic.now c.in-Plain.ensures.answer (omega (arith, ltb-true, ltb-false));
+      answer = c.takes_end.ensures.answer ∙ takes_end c.args.start c.args.filter.now c.args.topic.now c.in-Plain.ensures.answer (omega (arith, ltb-true, ltb-false));
     }
 
 pub returns-in-empty-default : goal.returns-in-empty-default

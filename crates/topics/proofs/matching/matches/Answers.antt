@@ -3,4 +3,4 @@ use Rattle.topics.proofs.matching.matches.Goals as goal
 
 pub returns : goal.returns
 unfolding takes
-returns c = record { answer = c.takes-from.ensures.answer }
+returns c = record { answer = c.takes_from.ensures.answer }

@@ -1,4 +1,4 @@
 use Rattle.messages.proofs.view.ops.+target_at.Given as goal
 
-abbrev pub decreases-target-at : goal.decreases-target-at
-decreases-target-at l = l.count
+abbrev pub decreases-target_at : goal.decreases-target_at
+decreases-target_at l = l.count
