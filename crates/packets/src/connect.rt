@@ -30,7 +30,7 @@ pub(crate) fn read_connect(bytes: &[u8], at: usize) -> Result<Packet<'_>, ReadEr
 fn is_protocol_name(name: &[u8]) -> bool
     ensures answer { result ≡ bytes_eq name.now protocol_name }
 {
-    name == PROTOCOL_NAME
+    name == PROTOCOL_NAME.as_slice()
 }
 
 // From the level on. Another level ends the reading.

@@ -10,9 +10,9 @@ returns-then-digit_of-high c = record {
       let k = code_known c.args.high c.args.low c.in-Some-Some.h c.in-Some-Some.l b c.in-Some-Some.ensures.answer c.in-Some-Some.ensures'.answer small digits in
       elim c.then-digit_of-high.branch [
         | then-digit_of-high-via-then-digit_of-high w ↦ w.if-digit_of-high.true (c.digit_of.ensures.answer ∙ k.high_is)
-        | then-digit_of-high-via-else-digit_of-high+then-digit_of-low w ↦ w.if-digit_of-low.true (w.digit_of-else-digit_of-high.ensures.answer ∙ k.low-is)
+        | then-digit_of-high-via-else-digit_of-high+then-digit_of-low w ↦ w.if-digit_of-low.true (w.digit_of-else-digit_of-high.ensures.answer ∙ k.low_is)
         | then-digit_of-high-via-else-digit_of-high+else-digit_of-low+then-is_plain w ↦
-            (let clash : true ≡ false = sym w.if-is-plain.true ∙ w.is-plain.ensures.answer ∙ ap plain k.byte-is ∙ other in
+            (let clash : true ≡ false = sym w.if-is_plain.true ∙ w.is_plain.ensures.answer ∙ ap plain k.byte_is ∙ other in
             let z : ◌≡◌ {A = ℕ} 0 1 = cc in omega arith)
       ];
 }

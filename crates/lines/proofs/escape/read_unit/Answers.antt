@@ -2,7 +2,7 @@ use Rattle.std.proofs.Common.{◌≡◌, ℕ, ◌≤◌, true, false, length, ge
 use Rattle.lines.specs.Escape.{plain}
 use Rattle.lines.proofs.Escapes.{plain-front, code_front, no_unit}
 use Rattle.lines.proofs.escape.read_unit.Goals as goal
-use Rattle.lines.proofs.escape.read_unit.Goals.{in_default-via-then-text-lt1, in_default-via-in-len1-up+else-is_plain+then-text-lt4, in-default-via-in-len1-up+else-is-plain+else-text-lt4+in-92·+in-default·, in-default-via-in-len1-up+else-is-plain+else-text-lt4+in-default·}
+use Rattle.lines.proofs.escape.read_unit.Goals.{in_default-via-then-text-lt1, in_default-via-in-len1-up+else-is_plain+then-text-lt4, in_default-via-in-len1-up+else-is_plain+else-text-lt4+in-92+in_default-1, in_default-via-in-len1-up+else-is_plain+else-text-lt4+in_default-1}
 
 -- a test that is true and false
 both : {A : Type 0} (b : ℕ) → false ≡ plain b → plain b ≡ true → A
@@ -30,16 +30,16 @@ returns-in_default c =
     let text = c.args.text.now in
     record {
       answer = no_unit text
-          (λ some p. elim c.in-default.branch [
+          (λ some p. elim c.in_default.branch [
             | in_default-via-then-text-lt1 w ↦ omega (arith, ltb-true, ltb-false)
             | in_default-via-in-len1-up+else-is_plain+then-text-lt4 w ↦ both (get_or text 0 0) w.if-is_plain.ensures.answer p
-            | in-default-via-in-len1-up+else-is-plain+else-text-lt4+in-92·+in-default· w ↦ both (get_or text 0 0) w.if-is_plain.ensures.answer p
-            | in-default-via-in-len1-up+else-is-plain+else-text-lt4+in-default· w ↦ both (get_or text 0 0) w.if-is_plain.ensures.answer p
+            | in_default-via-in-len1-up+else-is_plain+else-text-lt4+in-92+in_default-1 w ↦ both (get_or text 0 0) w.if-is_plain.ensures.answer p
+            | in_default-via-in-len1-up+else-is_plain+else-text-lt4+in_default-1 w ↦ both (get_or text 0 0) w.if-is_plain.ensures.answer p
           ])
-          (λ four slash x b h n e. elim c.in-default.branch [
+          (λ four slash x b h n e. elim c.in_default.branch [
             | in_default-via-then-text-lt1 w ↦ omega (arith, ltb-true, ltb-false)
             | in_default-via-in-len1-up+else-is_plain+then-text-lt4 w ↦ omega (arith, ltb-true, ltb-false)
-            | in-default-via-in-len1-up+else-is-plain+else-text-lt4+in-92·+in-default· w ↦ omega (arith, ltb-true, ltb-false)
-            | in-default-via-in-len1-up+else-is-plain+else-text-lt4+in-default· w ↦ omega (arith, ltb-true, ltb-false)
+            | in_default-via-in-len1-up+else-is_plain+else-text-lt4+in-92+in_default-1 w ↦ omega (arith, ltb-true, ltb-false)
+            | in_default-via-in-len1-up+else-is_plain+else-text-lt4+in_default-1 w ↦ omega (arith, ltb-true, ltb-false)
           ]);
     }

@@ -14,7 +14,7 @@ returns-then-is_empty c = record { answer = λ bs h e. not-empty bs c.args.text.
 pub returns-then-eq : goal.returns-then-eq
 returns-then-eq c = record {
   answer = (
-    ap escaped c.new.ensures.items ∙ sym ((slice_eq-Decides Decides-eqb _ _ _ c.eq.ensures).0 c.if-eq.true),
+    (let same : c.args.text.now ≡ 45 ∷ [] = (slice_eq-Decides Decides-eqb _ _ _ c.eq.ensures).0 c.if-eq.true ∙ c.as_slice.ensures in ap escaped c.new.ensures.items ∙ sym same),
     subst (λ l. Bytes l) (sym c.new.ensures.items) tt,
   );
 }
@@ -22,7 +22,7 @@ returns-then-eq c = record {
 pub returns-then-eq-2 : goal.returns-then-eq-2
 returns-then-eq-2 c = record {
   answer = (
-    ap escaped c.in_ok-vec.ensures.items ∙ sym ((slice_eq-Decides Decides-eqb _ _ _ c.eq-2.ensures).0 c.if-eq-2.true),
+    (let same : c.args.text.now ≡ 92 ∷ 120 ∷ 50 ∷ 100 ∷ [] = (slice_eq-Decides Decides-eqb _ _ _ c.eq-2.ensures).0 c.if-eq-2.true ∙ c.as_slice-2.ensures in ap escaped c.in_ok-vec.ensures.items ∙ sym same),
     subst (λ l. Bytes l) (sym c.in_ok-vec.ensures.items) (lit< tt, tt),
   );
 }
@@ -36,6 +36,6 @@ other text (Err Memory) some dash code s = tt
 pub returns : goal.returns
 returns c =
     let text = c.args.text.now in
-    let dash : text ≡ 45 ∷ [] → ⊥ = not_from_Decides _ (slice_eq-Decides Decides-eqb _ _ _ c.eq.ensures) c.if-eq.false in
-    let code : text ≡ 92 ∷ 120 ∷ 50 ∷ 100 ∷ [] → ⊥ = not_from_Decides _ (slice_eq-Decides Decides-eqb _ _ _ c.eq-2.ensures) c.if-eq-2.false in
-    record { answer = other text c.unescape-each.result (grind (arith, nat_tests)) dash code c.unescape-each.ensures.answer }
+    let dash : text ≡ 45 ∷ [] → ⊥ = λ e. not_from_Decides _ (slice_eq-Decides Decides-eqb _ _ _ c.eq.ensures) c.if-eq.false (e ∙ sym c.as_slice.ensures) in
+    let code : text ≡ 92 ∷ 120 ∷ 50 ∷ 100 ∷ [] → ⊥ = λ e. not_from_Decides _ (slice_eq-Decides Decides-eqb _ _ _ c.eq-2.ensures) c.if-eq-2.false (e ∙ sym c.as_slice-2.ensures) in
+    record { answer = other text c.unescape_each.result (grind (arith, nat_tests)) dash code c.unescape_each.ensures.answer }

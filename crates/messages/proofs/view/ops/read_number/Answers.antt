@@ -6,6 +6,6 @@ pub returns : goal.returns
 returns c =
     let bs = c.args.bytes.now in
     record {
-      answer = ap (λ (n : ℕ). Some (n, take (length bs - 4) (drop 4 bs))) c.from-be-bytes.ensures ∙ number_four bs (omega (arith, ltb-true, ltb-false));
-      bound = c.from-be-bytes.type-inv;
+      answer = ap (λ (n : ℕ). Some (n, take (length bs - 4) (drop 4 bs))) c.from_be_bytes.ensures ∙ number_four bs (omega (arith, ltb-true, ltb-false));
+      bound = c.from_be_bytes.type_inv;
     }

@@ -3,16 +3,16 @@ use Rattle.sessions.specs.Session.{Session, decode, from_client, after_client}
 use Rattle.sessions.proofs.Steps.{rows_only}
 use Rattle.sessions.proofs.view.SessionRow.read.Goals as goal
 
-pub returns-in-default : goal.returns-in-default
+pub returns-in_default : goal.returns-in_default
 unfolding decode
-returns-in-default c = record { answer = ap from_client c.in-default.ensures.answer; lawful = tt }
+returns-in_default c = record { answer = ap from_client c.in_default.ensures.answer; lawful = tt }
 
-pub returns-then-not-is-client-identifier : goal.returns-then-not-is-client-identifier
+pub returns-then-not-is_client_identifier : goal.returns-then-not-is_client_identifier
 unfolding decode
-returns-then-not-is-client-identifier c =
+returns-then-not-is_client_identifier c =
     record {
       answer =
-          ap (λ v. cond {A = Option Session} v (after_client c.in-Some.client.now c.in-Some.rest.now) None) c.if-not-is-client-identifier.ensures.answer
+          ap (λ v. cond {A = Option Session} v (after_client c.in-Some.client.now c.in-Some.rest.now) None) c.if-not-is_client_identifier.ensures.answer
           ∙ ap from_client c.in-Some.ensures.answer;
       lawful = tt;
     }
@@ -22,8 +22,8 @@ unfolding decode
 returns c =
     record {
       answer =
-          c.after-client.ensures.answer
-          ∙ ap (λ v. cond {A = Option Session} v (after_client c.in-Some.client.now c.in-Some.rest.now) None) c.if-not-is-client-identifier.ensures.answer
+          c.after_client.ensures.answer
+          ∙ ap (λ v. cond {A = Option Session} v (after_client c.in-Some.client.now c.in-Some.rest.now) None) c.if-not-is_client_identifier.ensures.answer
           ∙ ap from_client c.in-Some.ensures.answer;
-      lawful = rows_only _ _ (sym c.if-not-is-client-identifier.ensures.answer) c.after-client.ensures.lawful;
+      lawful = rows_only _ _ (sym c.if-not-is_client_identifier.ensures.answer) c.after_client.ensures.lawful;
     }

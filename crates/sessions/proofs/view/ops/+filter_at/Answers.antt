@@ -6,7 +6,7 @@ pub returns-then-i-eq0 : goal.returns-then-i-eq0
 returns-then-i-eq0 t c = record { answer = place_here _ _ _ _ (omega arith) c.in-Some.ensures.answer (omega arith) }
 
 pub returns-else-i-eq0 : goal.returns-else-i-eq0
-returns-else-i-eq0 t c = record { answer = c.filter-at.ensures.answer ∙ place_later _ _ _ _ (omega arith) c.in-Some.ensures.answer (omega arith) }
+returns-else-i-eq0 t c = record { answer = c.filter_at.ensures.answer ∙ place_later _ _ _ _ (omega arith) c.in-Some.ensures.answer (omega arith) }
 
 pub returns-in-None : goal.returns-in-None
 returns-in-None t c = record { answer = place_none _ _ _ (omega arith) c.in-None.ensures.answer }

@@ -5,8 +5,8 @@ use Rattle.sessions.specs.Session.{qualified}
 use Rattle.sessions.proofs.Steps.{filter_none, filter_one}
 use Rattle.sessions.proofs.view.ops.read_filter.Goals as goal
 
-pub returns-in-default : goal.returns-in-default
-returns-in-default c = record { answer = filter_none c.args.bytes.now (omega (arith, ltb-true, ltb-false)) }
+pub returns-in_default : goal.returns-in_default
+returns-in_default c = record { answer = filter_none c.args.bytes.now (omega (arith, ltb-true, ltb-false)) }
 
 pub returns : goal.returns
 returns c =
@@ -14,7 +14,7 @@ returns c =
     record {
       answer =
           c.qualified.ensures.answer
-          ∙ ap (λ q. qualified q (texts c.split-text.result)) c.from-number.ensures.answer
-          ∙ ap (λ t. qualified (qos_of (get_or bs 0 0)) t) c.split-text.ensures.answer
+          ∙ ap (λ q. qualified q (texts c.split_text.result)) c.from_number.ensures.answer
+          ∙ ap (λ t. qualified (qos_of (get_or bs 0 0)) t) c.split_text.ensures.answer
           ∙ filter_one bs (omega (arith, ltb-true, ltb-false));
     }

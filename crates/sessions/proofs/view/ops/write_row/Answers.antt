@@ -8,6 +8,6 @@ pub returns : goal.returns
 returns c =
     record {
       buffer =
-          subst (λ l. Written (Ok (text_bytes c.args.client.now ++ c.args.count ∷ (c.args.first.now ++ (c.args.middle.now ++ l)))) c.write-pieces.result c.args.out.now c.write-pieces.new.out)
-          (append-nil c.args.last.now) c.write-pieces.ensures.buffer;
+          subst (λ l. Written (Ok (text_bytes c.args.client.now ++ c.args.count ∷ (c.args.first.now ++ (c.args.middle.now ++ l)))) c.write_pieces.result c.args.out.now c.write_pieces.new.out)
+          (append-nil c.args.last.now) c.write_pieces.ensures.buffer;
     }
