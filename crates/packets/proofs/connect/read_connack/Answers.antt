@@ -23,4 +23,4 @@ unfolding connack_in
 returns-else-present-gt1 c =
     let bs = c.args.bytes.now in
     let h : 1 ≤ length bs = omega (arith, ltb-true, ltb-false) in
-    record { answer = by_byte (after_first bs c.args.at) bs h (rw (le-leb _ 1 c.if-present-gt1.false) c.read-return-code.ensures.answer) }
+    record { answer = by_byte (after_first bs c.args.at) bs h (rw (le-leb _ 1 c.if-present-gt1.false) c.read_return_code.ensures.answer) }

@@ -23,4 +23,4 @@ unfolding flags_in
 returns-else-flags-ne0 c =
     let bs = c.args.bytes.now in
     let h : 1 ≤ length bs = omega (arith, ltb-true, ltb-false) in
-    record { answer = by_byte (after_flags bs c.args.at) bs h (rw (eq-eqb _ 0 c.if-flags-ne0.false) c.read-keep-alive.ensures.answer) }
+    record { answer = by_byte (after_flags bs c.args.at) bs h (rw (eq-eqb _ 0 c.if-flags-ne0.false) c.read_keep_alive.ensures.answer) }

@@ -11,16 +11,16 @@ returns-in-empty c =
     let h : length bs < 1 = omega (arith, ltb-true, ltb-false) in
     record { answer = no_byte (after_level bs c.args.at) bs h (ap (λ e. Err e) c.missing.ensures.answer) }
 
-pub returns-then-level-ne-PROTOCOL-LEVEL : goal.returns-then-level-ne-PROTOCOL-LEVEL
+pub returns-then-level-ne-PROTOCOL_LEVEL : goal.returns-then-level-ne-PROTOCOL_LEVEL
 unfolding level_in
-returns-then-level-ne-PROTOCOL-LEVEL c =
+returns-then-level-ne-PROTOCOL_LEVEL c =
     let bs = c.args.bytes.now in
     let h : 1 ≤ length bs = omega (arith, ltb-true, ltb-false) in
-    record { answer = by_byte (after_level bs c.args.at) bs h (rw (ne_eqb _ 4 c.if-level-ne-PROTOCOL-LEVEL.true) refl) }
+    record { answer = by_byte (after_level bs c.args.at) bs h (rw (ne_eqb _ 4 c.if-level-ne-PROTOCOL_LEVEL.true) refl) }
 
-pub returns-else-level-ne-PROTOCOL-LEVEL : goal.returns-else-level-ne-PROTOCOL-LEVEL
+pub returns-else-level-ne-PROTOCOL_LEVEL : goal.returns-else-level-ne-PROTOCOL_LEVEL
 unfolding level_in
-returns-else-level-ne-PROTOCOL-LEVEL c =
+returns-else-level-ne-PROTOCOL_LEVEL c =
     let bs = c.args.bytes.now in
     let h : 1 ≤ length bs = omega (arith, ltb-true, ltb-false) in
-    record { answer = by_byte (after_level bs c.args.at) bs h (rw (eq-eqb _ 4 c.if-level-ne-PROTOCOL-LEVEL.false) c.read-flags.ensures.answer) }
+    record { answer = by_byte (after_level bs c.args.at) bs h (rw (eq-eqb _ 4 c.if-level-ne-PROTOCOL_LEVEL.false) c.read_flags.ensures.answer) }

@@ -4,9 +4,9 @@ use Rattle.packets.proofs.Fronts.{rest2, by_number, no_number}
 use Rattle.packets.specs.Fields.{identifier_in, identified}
 use Rattle.packets.proofs.fields.read_identifier.Goals as goal
 
-pub returns-in-default : goal.returns-in-default
+pub returns-in_default : goal.returns-in_default
 unfolding identifier_in
-returns-in-default c =
+returns-in_default c =
     let bs = c.args.bytes.now in
     let h : length bs < 2 = omega (arith, ltb-true, ltb-false) in
     record { answer = no_number (identified bs c.args.at) bs h (ap (λ e. Err e) c.missing.ensures.answer); bound = tt }
@@ -24,7 +24,7 @@ unfolding identifier_in
 returns-else-id-eq0 c =
     let bs = c.args.bytes.now in
     let h : 2 ≤ length bs = omega (arith, ltb-true, ltb-false) in
-    let n : c.from-be-bytes-id.result ≡ 256 * get_or bs 0 0 + get_or bs 1 0 = omega arith in
+    let n : c.from_be_bytes-id.result ≡ 256 * get_or bs 0 0 + get_or bs 1 0 = omega arith in
     let some : 256 * get_or bs 0 0 + get_or bs 1 0 ≢ 0 = omega arith in
     record {
       answer = by_number (identified bs c.args.at) bs h (rw (ne_eqb _ 0 some) (ap (λ k. Ok (k, rest2 bs)) n));

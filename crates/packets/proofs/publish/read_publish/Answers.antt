@@ -5,7 +5,7 @@ use Rattle.packets.proofs.publish.read_publish.Goals as goal
 pub returns-in-Some : goal.returns-in-Some
 unfolding publish_in
 returns-in-Some c =
-    record { answer = c.read-topic.ensures.answer ∙ ap (with_qos (leb 8 c.args.flags) c.args.bytes.now c.args.at) c.in-Some.ensures.answer }
+    record { answer = c.read_topic.ensures.answer ∙ ap (with_qos (leb 8 c.args.flags) c.args.bytes.now c.args.at) c.in-Some.ensures.answer }
 
 pub returns-in-None : goal.returns-in-None
 unfolding publish_in

@@ -52,7 +52,7 @@ pub returns-then-not-is_message : goal.returns-then-not-is_message
 returns-then-not-is_message c =
     record {
       answer =
-          at_end c.in-Some.rank c.in-Some-read_origin.origin c.in-Some-read_number.map c.in-Some-read_number.tail.now c.in-Some-past_targets.after_targets.now c.in-Some-split_text.topic.now c.in-Some-split_text.payload.now false c.in-Some-read_number.ensures.bound c.in-Some-past_targets.ensures.answer c.if-not-is-message.ensures.answer
+          at_end c.in-Some.rank c.in-Some-read_origin.origin c.in-Some-read_number.map c.in-Some-read_number.tail.now c.in-Some-past_targets.after_targets.now c.in-Some-split_text.topic.now c.in-Some-split_text.payload.now false c.in-Some-read_number.ensures.bound c.in-Some-past_targets.ensures.answer c.if-not-is_message.ensures.answer
           ∙ at_topic c.in-Some.rank c.in-Some-read_origin.origin (owed 32 c.in-Some-read_number.map c.in-Some-read_number.tail.now, c.in-Some-past_targets.after_targets.now) (Some (c.in-Some-split_text.topic.now, c.in-Some-split_text.payload.now)) c.in-Some-split_text.ensures.answer
           ∙ at_targets c.in-Some.rank c.in-Some-read_origin.origin c.in-Some-read_number.map c.in-Some-read_number.tail.now c.in-Some-past_targets.after_targets.now c.in-Some-past_targets.ensures.answer
           ∙ at_map c.in-Some.rank (c.in-Some-read_origin.origin, c.in-Some-read_origin.after_origin.now) (Some (c.in-Some-read_number.map, c.in-Some-read_number.tail.now)) c.in-Some-read_number.ensures.answer
@@ -64,7 +64,7 @@ pub returns : goal.returns
 returns c =
     record {
       answer =
-          at_end c.in-Some.rank c.in-Some-read_origin.origin c.in-Some-read_number.map c.in-Some-read_number.tail.now c.in-Some-past_targets.after_targets.now c.in-Some-split_text.topic.now c.in-Some-split_text.payload.now true c.in-Some-read_number.ensures.bound c.in-Some-past_targets.ensures.answer c.if-not-is-message.ensures.answer
+          at_end c.in-Some.rank c.in-Some-read_origin.origin c.in-Some-read_number.map c.in-Some-read_number.tail.now c.in-Some-past_targets.after_targets.now c.in-Some-split_text.topic.now c.in-Some-split_text.payload.now true c.in-Some-read_number.ensures.bound c.in-Some-past_targets.ensures.answer c.if-not-is_message.ensures.answer
           ∙ at_topic c.in-Some.rank c.in-Some-read_origin.origin (owed 32 c.in-Some-read_number.map c.in-Some-read_number.tail.now, c.in-Some-past_targets.after_targets.now) (Some (c.in-Some-split_text.topic.now, c.in-Some-split_text.payload.now)) c.in-Some-split_text.ensures.answer
           ∙ at_targets c.in-Some.rank c.in-Some-read_origin.origin c.in-Some-read_number.map c.in-Some-read_number.tail.now c.in-Some-past_targets.after_targets.now c.in-Some-past_targets.ensures.answer
           ∙ at_map c.in-Some.rank (c.in-Some-read_origin.origin, c.in-Some-read_origin.after_origin.now) (Some (c.in-Some-read_number.map, c.in-Some-read_number.tail.now)) c.in-Some-read_number.ensures.answer
