@@ -11,11 +11,11 @@ returns-in_err-id c =
 pub returns-in_err-filters : goal.returns-in_err-filters
 returns-in_err-filters c =
     let p = err_from_is_err_and c.from_residual-in_err-filters.result c.from_residual-in_err-filters.ensures.1 in
-    record { answer = rw (p.1, p.2) (sub_ok c.args.bytes.now c.args.at c.args.with_qos c.in_ok-id.id c.in_ok-id.ensures.answer c.in-err-filters.ensures.answer) }
+    record { answer = rw (p.1, p.2) (sub_ok c.args.bytes.now c.args.at c.args.with_qos c.in_ok-id.id c.in_ok-id.ensures.answer c.in_err-filters.ensures.answer) }
 
 pub returns : goal.returns
 returns c =
     record {
       answer = ap (λ x. Ok x) c.with_filters.ensures.answer
-          ∙ sub_ok c.args.bytes.now c.args.at c.args.with_qos c.in_ok-id.id c.in_ok-id.ensures.answer c.in-ok-filters.ensures.answer;
+          ∙ sub_ok c.args.bytes.now c.args.at c.args.with_qos c.in_ok-id.id c.in_ok-id.ensures.answer c.in_ok-filters.ensures.answer;
     }
