@@ -12,8 +12,8 @@ loop-call-preserved g c =
     let h = c.loop-call-test.true in
     let m = c.make.ensures in
     let v = c.loop-call.invariant in
-    let u = c.push-reserved.ensures in (
-      answers_more d e cs i x.result x.is h c.make.result m.answer m.after (vec_items c.loop-call.answers) (vec_items c.push-reserved.new.self) u.items ∙ v.0,
+    let u = c.push_reserved.ensures in (
+      answers_more d e cs i x.result x.is h c.make.result m.answer m.after (vec_items c.loop-call.answers) (vec_items c.push_reserved.new.self) u.items ∙ v.0,
       final_more d e cs i x.result x.is h c.make.result m.answer m.after ∙ v.1,
       m.rest ∙ v.2,
       omega (arith, u.len, v.3),

@@ -26,5 +26,5 @@ returns-else-n-rest c =
     let two : length (rest2 bs) + 2 ≡ length bs = simp (length-take, length-drop) (omega arith) in
     record {
       answer = prefix_whole bs _ h n c.if-n-rest.false c.split_at.ensures.front c.split_at.ensures.back;
-      bound = omega (arith, c.split_at.ensures.front-len, c.split_at.ensures.back_len);
+      bound = omega (arith, c.split_at.ensures.front_len, c.split_at.ensures.back_len);
     }

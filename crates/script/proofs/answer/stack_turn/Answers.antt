@@ -20,5 +20,5 @@ refused s p line e (Err x) st told = tt
 
 pub returns-in-Err : goal.returns-in-Err
 returns-in-Err c = record {
-  answer = refused c.args.spans c.args.pile c.args.line.now c.in-Err.refused c.refused-turn.result c.in-Err.ensures.answer c.refused-turn.ensures.answer;
+  answer = refused c.args.spans c.args.pile c.args.line.now c.in-Err.refused c.refused_turn.result c.in-Err.ensures.answer c.refused_turn.ensures.answer;
 }
