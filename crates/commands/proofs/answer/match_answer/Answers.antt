@@ -3,12 +3,12 @@ use Rattle.lines.proofs.Escapes.{escape_law}
 use Rattle.commands.specs.Answer.{verdict}
 use Rattle.commands.proofs.answer.match_answer.Goals as goal
 
-pub returns-in-ok-text : goal.returns-in-ok-text
-returns-in-ok-text c =
+pub returns-in_ok-text-in-Ok-Ok : goal.returns-in_ok-text-in-Ok-Ok
+returns-in_ok-text-in-Ok-Ok c =
     let filter = c.in-Ok-Ok.ensures.answer in
     let topic = c.in-Ok-Ok.ensures'.answer in
-    let text = c.in-ok-text.ensures.ok ∙ c.judge.ensures.answer
-    ∙ (λ i. verdict (c.as-slice.ensures.value i) (c.as-slice-in-Ok-Ok.ensures.value i)) in
+    let text = c.in_ok-text-in-Ok-Ok.ensures.ok ∙ c.judge.ensures.answer
+    ∙ (λ i. verdict (c.as_slice.ensures.value i) (c.as_slice-in-Ok-Ok.ensures.value i)) in
     let fs = vec_items c.in-Ok-Ok.filter in
     let ts = vec_items c.in-Ok-Ok.topic in
     record {

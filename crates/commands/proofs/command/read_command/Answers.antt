@@ -6,10 +6,10 @@ pub returns : goal.returns
 unfolding command_in
 returns c =
     let line = c.args.line.now in
-    let n = c.next-word.ensures in
-    let f = c.next-word-2.ensures in
-    let s = c.next-word-3.ensures in
-    let t = c.next-word-4.ensures in
+    let n = c.next_word.ensures in
+    let f = c.next_word-2.ensures in
+    let s = c.next_word-3.ensures in
+    let t = c.next_word-4.ensures in
     let two = f.after ∙ ap after n.after in
     let three = s.after ∙ ap after two in
     record {

@@ -6,7 +6,7 @@ use Rattle.commands.proofs.dissect.codes_text.Goals as goal
 
 pub loop-code-preserved : goal.loop-code-preserved
 loop-code-preserved c =
-    c.in-ok-push-code.ensures.after ∙ ap (λ l. l ++ code_text (get_or c.args.codes.now c.loop-code.code-index 0)) c.loop-code.invariant
+    c.in_ok-push_code.ensures.after ∙ ap (λ l. l ++ code_text (get_or c.args.codes.now c.loop-code.code-index 0)) c.loop-code.invariant
     ∙ sym (each_more code_text c.args.codes.now c.loop-code.code-index c.loop-code-test.true)
 
 pub returns : goal.returns

@@ -3,6 +3,6 @@ use Rattle.commands.proofs.dissect.connect_text.Goals as goal
 
 pub returns : goal.returns
 returns c = record {
-  answer = c.in-ok-text.ensures.ok
-      ∙ ap (λ x. codes "CONNECT client " ++ (x ++ (codes " at " ++ (decimal c.args.at ++ codes "\n")))) c.in-ok-client.ensures.answer;
+  answer = c.in_ok-text.ensures.ok
+      ∙ ap (λ x. codes "CONNECT client " ++ (x ++ (codes " at " ++ (decimal c.args.at ++ codes "\n")))) c.in_ok-client.ensures.answer;
 }

@@ -5,10 +5,10 @@ use Rattle.commands.specs.Dissect.{entry_text, entries_text}
 use Rattle.commands.proofs.Entries.{nth-none, nth_some, entries_more, few}
 use Rattle.commands.proofs.dissect.filters_text.Goals as goal
 
-pub returns-in-default : goal.returns-in-default
-returns-in-default c =
+pub returns-in_default : goal.returns-in_default
+returns-in_default c =
     let es = entries_of c.args.filters in
-    let end = nth-none c.loop-index.index es c.in-default.ensures.answer in
+    let end = nth-none c.loop-index.index es c.in_default.ensures.answer in
     record { answer = (c.loop-index.invariant.0 ∙ ap entries_text (take_all c.loop-index.index es end), omega arith) }
 
 pub loop-index-preserved : goal.loop-index-preserved
@@ -17,7 +17,7 @@ loop-index-preserved c =
     let x = entry_of c.in-Some.filter in
     let at = c.in-Some.ensures.answer in
     let low = nth_some c.loop-index.index es x at in
-    (c.in-ok-push-filter.ensures.after ∙ ap (λ l. l ++ entry_text x) c.loop-index.invariant.0 ∙ sym (entries_more c.loop-index.index es x at), omega arith)
+    (c.in_ok-push_filter.ensures.after ∙ ap (λ l. l ++ entry_text x) c.loop-index.invariant.0 ∙ sym (entries_more c.loop-index.index es x at), omega arith)
 
 pub returns : goal.returns
 returns c =

@@ -5,32 +5,32 @@ use Rattle.commands.proofs.dissect.packet_text.Goals as goal
 
 pub returns-in-Connect : goal.returns-in-Connect
 returns-in-Connect c = record {
-  answer = subst (λ p. IfOk c.connect-text.result (λ text. string_bytes text ≡ content_text (content p))) (sym c.in-Connect.is) c.connect-text.ensures.answer;
+  answer = subst (λ p. IfOk c.connect_text.result (λ text. string_bytes text ≡ content_text (content p))) (sym c.in-Connect.is) c.connect_text.ensures.answer;
 }
 
 pub returns-in-ConnAck : goal.returns-in-ConnAck
 returns-in-ConnAck c = record {
-  answer = subst (λ p. IfOk c.connack-text.result (λ text. string_bytes text ≡ content_text (content p))) (sym c.in-ConnAck.is) c.connack-text.ensures.answer;
+  answer = subst (λ p. IfOk c.connack_text.result (λ text. string_bytes text ≡ content_text (content p))) (sym c.in-ConnAck.is) c.connack_text.ensures.answer;
 }
 
 pub returns-in-Publish : goal.returns-in-Publish
 returns-in-Publish c = record {
-  answer = subst (λ p. IfOk c.publish-text.result (λ text. string_bytes text ≡ content_text (content p))) (sym c.in-Publish.is) c.publish-text.ensures.answer;
+  answer = subst (λ p. IfOk c.publish_text.result (λ text. string_bytes text ≡ content_text (content p))) (sym c.in-Publish.is) c.publish_text.ensures.answer;
 }
 
 pub returns-in-Subscribe : goal.returns-in-Subscribe
 returns-in-Subscribe c = record {
-  answer = subst (λ p. IfOk c.subscribe-text.result (λ text. string_bytes text ≡ content_text (content p))) (sym c.in-Subscribe.is) c.subscribe-text.ensures.answer;
+  answer = subst (λ p. IfOk c.subscribe_text.result (λ text. string_bytes text ≡ content_text (content p))) (sym c.in-Subscribe.is) c.subscribe_text.ensures.answer;
 }
 
 pub returns-in-SubAck : goal.returns-in-SubAck
 returns-in-SubAck c = record {
-  answer = subst (λ p. IfOk c.suback-text.result (λ text. string_bytes text ≡ content_text (content p))) (sym c.in-SubAck.is) c.suback-text.ensures.answer;
+  answer = subst (λ p. IfOk c.suback_text.result (λ text. string_bytes text ≡ content_text (content p))) (sym c.in-SubAck.is) c.suback_text.ensures.answer;
 }
 
 pub returns-in-Unsubscribe : goal.returns-in-Unsubscribe
 returns-in-Unsubscribe c = record {
-  answer = subst (λ p. IfOk c.unsubscribe-text.result (λ text. string_bytes text ≡ content_text (content p))) (sym c.in-Unsubscribe.is) c.unsubscribe-text.ensures.answer;
+  answer = subst (λ p. IfOk c.unsubscribe_text.result (λ text. string_bytes text ≡ content_text (content p))) (sym c.in-Unsubscribe.is) c.unsubscribe_text.ensures.answer;
 }
 
 pub returns-in-PubAck : goal.returns-in-PubAck
@@ -60,15 +60,15 @@ returns-in-UnsubAck c = record {
 
 pub returns-in-PingReq : goal.returns-in-PingReq
 returns-in-PingReq c = record {
-  answer = subst (λ p. IfOk c.from-str.result (λ text. string_bytes text ≡ content_text (content p))) (sym c.in-PingReq.is) c.from-str.ensures.ok;
+  answer = subst (λ p. IfOk c.from_str.result (λ text. string_bytes text ≡ content_text (content p))) (sym c.in-PingReq.is) c.from_str.ensures.ok;
 }
 
 pub returns-in-PingResp : goal.returns-in-PingResp
 returns-in-PingResp c = record {
-  answer = subst (λ p. IfOk c.from-str-in-PingResp.result (λ text. string_bytes text ≡ content_text (content p))) (sym c.in-PingResp.is) c.from-str-in-PingResp.ensures.ok;
+  answer = subst (λ p. IfOk c.from_str-in-PingResp.result (λ text. string_bytes text ≡ content_text (content p))) (sym c.in-PingResp.is) c.from_str-in-PingResp.ensures.ok;
 }
 
 pub returns-in-Disconnect : goal.returns-in-Disconnect
 returns-in-Disconnect c = record {
-  answer = subst (λ p. IfOk c.from-str-in-Disconnect.result (λ text. string_bytes text ≡ content_text (content p))) (sym c.in-Disconnect.is) c.from-str-in-Disconnect.ensures.ok;
+  answer = subst (λ p. IfOk c.from_str-in-Disconnect.result (λ text. string_bytes text ≡ content_text (content p))) (sym c.in-Disconnect.is) c.from_str-in-Disconnect.ensures.ok;
 }

@@ -3,10 +3,10 @@ use Rattle.commands.proofs.dissect.publish_head.Goals as goal
 
 pub returns : goal.returns
 returns c =
-    let dup = c.bit-of-dup.ensures.answer in
+    let dup = c.bit_of-dup.ensures.answer in
     let qos = c.number-qos.ensures.answer in
-    let id = c.unwrap-or-id.ensures in
+    let id = c.unwrap_or-id.ensures in
     record {
-      answer = c.in-ok-text.ensures.ok
+      answer = c.in_ok-text.ensures.ok
           ∙ (λ i. codes "PUBLISH dup " ++ (decimal (dup i) ++ (codes " qos " ++ (decimal (qos i) ++ (codes " id " ++ decimal (id i))))));
     }

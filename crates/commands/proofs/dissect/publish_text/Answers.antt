@@ -3,5 +3,5 @@ use Rattle.commands.proofs.dissect.publish_text.Goals as goal
 
 pub returns : goal.returns
 returns c = record {
-  answer = c.in-ok-text.ensures.ok ∙ (λ i. c.in-ok-head.ensures.answer i ++ c.in-ok-parts.ensures.answer i);
+  answer = c.in_ok-text.ensures.ok ∙ (λ i. c.in_ok-head.ensures.answer i ++ c.in_ok-parts.ensures.answer i);
 }

@@ -15,7 +15,7 @@ loop-first-init c = c.new-text.ensures.bytes ∙ none
 
 pub loop-first-preserved : goal.loop-first-preserved
 loop-first-preserved c =
-    c.in-ok-push-cell.ensures.after ∙ ap (λ l. l ++ cell_text c.loop-first.first) c.loop-first.invariant ∙ more c.loop-first.first
+    c.in_ok-push_cell.ensures.after ∙ ap (λ l. l ++ cell_text c.loop-first.first) c.loop-first.invariant ∙ more c.loop-first.first
 
 pub returns : goal.returns
 returns c = let all : c.loop-first.first ≡ 256 = omega arith in record { answer = c.loop-first.invariant ∙ ap types_text all }

@@ -12,12 +12,12 @@ loop-word-preserved g c =
     let ws = c.args.script.now in
     let i = c.loop-word.word-index in
     let h = c.loop-word-test.true in
-    let o = c.from-word.result in
-    let at : o ≡ operation_in (get_or ws i 0) = c.from-word.ensures.answer in
+    let o = c.from_word.result in
+    let at : o ≡ operation_in (get_or ws i 0) = c.from_word.ensures.answer in
     let m = c.perform.ensures in
     let v = c.loop-word.invariant in
-    let u = c.push-reserved.ensures in (
-      replies_more d e pool c.loop-word.buffer c.perform.new.buffer ws i h o at m.after m.buffer c.perform.result m.answer (vec_items c.loop-word.answers) (vec_items c.push-reserved.new.self) u.items ∙ v.0,
+    let u = c.push_reserved.ensures in (
+      replies_more d e pool c.loop-word.buffer c.perform.new.buffer ws i h o at m.after m.buffer c.perform.result m.answer (vec_items c.loop-word.answers) (vec_items c.push_reserved.new.self) u.items ∙ v.0,
       buffer_more d e pool c.loop-word.buffer c.perform.new.buffer ws i h o at m.after m.buffer ∙ v.1,
       omega (arith, u.len, v.2),
       omega (arith, u.capacity, v.3),

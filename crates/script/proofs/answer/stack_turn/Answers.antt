@@ -8,9 +8,9 @@ use Rattle.script.specs.declared.answer.Turn.{Turn}
 use Rattle.script.specs.Answer.{WindowOn, WindowRefused}
 use Rattle.script.proofs.answer.stack_turn.Goals as goal
 
-pub returns-in-ok-text : goal.returns-in-ok-text
-returns-in-ok-text c = record {
-  answer = record { result = Ok c.in-Ok.pile; stacks = c.in-Ok.ensures.answer; told = (refl, c.in-ok-text.ensures.ok) };
+pub returns-in_ok-text-in-Ok : goal.returns-in_ok-text-in-Ok
+returns-in_ok-text-in-Ok c = record {
+  answer = record { result = Ok c.in-Ok.pile; stacks = c.in-Ok.ensures.answer; told = (refl, c.in_ok-text-in-Ok.ensures.ok) };
 }
 
 -- a refusal that is told

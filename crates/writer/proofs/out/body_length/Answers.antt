@@ -6,5 +6,5 @@ returns c =
     let i = c.args.image in
     record {
       answer = four i.lead.now i.second.now i.third.now i.rest.now
-          c.saturating-add-count.ensures c.saturating-add.ensures c.saturating-add-2.ensures;
+          c.saturating_add-count.ensures c.saturating_add.ensures c.saturating_add-2.ensures;
     }

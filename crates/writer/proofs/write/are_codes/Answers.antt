@@ -7,11 +7,11 @@ use Rattle.writer.proofs.write.are_codes.Goals as goal
 
 pub loop-code-preserved : goal.loop-code-preserved
 loop-code-preserved c =
-    sym (every-step is_code c.args.codes.now c.loop-code.code-index c.loop-code-test.true (sym c.if-not-is-code.ensures.answer)) ∙ c.loop-code.invariant
+    sym (every-step is_code c.args.codes.now c.loop-code.code-index c.loop-code-test.true (sym c.if-not-is_code.ensures.answer)) ∙ c.loop-code.invariant
 
-pub returns-then-not-is-code : goal.returns-then-not-is-code
-returns-then-not-is-code c =
-    record { answer = sym (every_stop is_code c.args.codes.now c.loop-code.code-index c.loop-code-test.true (sym c.if-not-is-code.ensures.answer)) ∙ c.loop-code.invariant }
+pub returns-then-not-is_code : goal.returns-then-not-is_code
+returns-then-not-is_code c =
+    record { answer = sym (every_stop is_code c.args.codes.now c.loop-code.code-index c.loop-code-test.true (sym c.if-not-is_code.ensures.answer)) ∙ c.loop-code.invariant }
 
 pub returns : goal.returns
 returns c =
