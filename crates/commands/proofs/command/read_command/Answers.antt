@@ -13,6 +13,6 @@ returns c =
     let two = f.after ∙ ap after n.after in
     let three = s.after ∙ ap after two in
     record {
-      answer = c.command-of.ensures.answer
+      answer = c.command_of.ensures.answer
           ∙ (λ i. named (n.word i) ((f.word ∙ ap word n.after) i) ((s.word ∙ ap word two) i) ((t.word ∙ ap word three) i));
     }

@@ -7,5 +7,5 @@ returns c =
     let payload = c.in_ok-payload.ensures.answer in
     record {
       answer = c.in_ok-text.ensures.ok
-          ∙ (λ i. codes " topic " ++ (topic i ++ (codes " at " ++ (decimal c.args.topic_at ++ (codes " payload " ++ (payload i ++ (codes " at " ++ (decimal c.args.payload-at ++ codes "\n"))))))));
+          ∙ (λ i. codes " topic " ++ (topic i ++ (codes " at " ++ (decimal c.args.topic_at ++ (codes " payload " ++ (payload i ++ (codes " at " ++ (decimal c.args.payload_at ++ codes "\n"))))))));
     }

@@ -34,5 +34,5 @@ returns-in-Some c =
     let e = needed i.first (joined i) c.body_length-count.ensures.answer c.length_width.ensures.answer c.saturating_add-needed.ensures in
     let room : length c.args.out.now < 2 ^ 63 = omega arith in
     let fits = roomy i.first (joined i) (length c.args.out.now) c.body_length-count.result room c.body_length-count.ensures.answer (omega arith) in
-    let all = whole i.first (joined i) c.args.out.now fits.1 (c.as_slice.ensures.answer ∙ c.in-Some.ensures.answer.1) c.put-image.ensures.answer c.put-image.ensures.buffer in
-    record { sent = (fits.0, lawful_now _ _ _ fits.1 c.if-not-lawful.false c.if-count-gt-BODY-BYTES.false, all.0, all.1) }
+    let all = whole i.first (joined i) c.args.out.now fits.1 (c.as_slice.ensures.answer ∙ c.in-Some.ensures.answer.1) c.put_image.ensures.answer c.put_image.ensures.buffer in
+    record { sent = (fits.0, lawful_now _ _ _ fits.1 c.if-not-lawful.false c.if-count-gt-BODY_BYTES.false, all.0, all.1) }
