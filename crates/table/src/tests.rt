@@ -55,7 +55,7 @@ fn a_lent_table_takes_changes(rt: HostRuntime) -> Result<(), Fail> {
     };
     let mut lent = &mut table;
     let outcomes = apply(rt.alloc(), &mut lent, &[put, drop])?;
-    assert!(rt; outcomes.as_slice() == &[Ok(()), Err(Refusal::Gone)]);
+    assert!(rt; outcomes.as_slice() == [Ok(()), Err(Refusal::Gone)].as_slice());
     assert!(rt; table.free() == 0);
     Ok(())
 }
