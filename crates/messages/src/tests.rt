@@ -21,8 +21,8 @@ const BAD: [&[u8]; 5] = [
 fn read(rt: HostRuntime) -> Result<(), Fail> {
     let row = MessageRow::read(&ROW).ok_or("against layout")?;
     assert_eq!(rt; row.rank, 300);
-    assert!(rt; row.topic == b"a/b");
-    assert!(rt; row.payload == b"hi");
+    assert!(rt; row.topic == b"a/b".as_slice());
+    assert!(rt; row.payload == b"hi".as_slice());
     let origin = row.origin.ok_or("no origin")?;
     assert_eq!(rt; origin.identifier, 9);
     let target = row.targets.get(9).ok_or("no target")?;

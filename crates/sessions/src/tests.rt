@@ -20,10 +20,10 @@ const BAD: [&[u8]; 8] = [
 #[test]
 fn read_and_written(rt: HostRuntime) -> Result<(), Fail> {
     let row = SessionRow::read(&ROW).ok_or("against layout")?;
-    assert!(rt; row.client == b"p7");
+    assert!(rt; row.client == b"p7".as_slice());
     assert_eq!(rt; row.filters.len(), 2);
     let second = row.filters.get(1).ok_or("no second filter")?;
-    assert!(rt; second.filter == b"b");
+    assert!(rt; second.filter == b"b".as_slice());
     assert!(rt; row.filters.get(2).is_none());
     let mut out = [0u8; 12];
     assert!(rt; row.write(&mut out).is_ok());
