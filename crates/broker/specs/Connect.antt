@@ -1,11 +1,11 @@
 -- CONNECT on an opened link.
-use Rattle.std.specs.Prelude.{◌≡◌, ℕ, ◌<◌, Bool, true, false, cond, List, [], ◌∷◌, Some, None, Option, ◌==◌}
+use Rattle.std.specs.Prelude.{◌≡◌, ℕ, ◌<◌, true, false, cond, List, [], ◌∷◌, Some, None, Option, ◌==◌}
 use Rattle.store.specs.Disk.{Disk}
 use Rattle.store.specs.declared.kind.Kind.TheVariants.{Session as session}
 use Rattle.topics.specs.Names.{is_client_id}
 use Rattle.packets.specs.Packet.{connack}
 use Rattle.messages.specs.Message.{sessions}
-use Rattle.sessions.specs.Session.{Session, encode}
+use Rattle.sessions.specs.Session.{encode}
 use Rattle.searches.specs.At.{is_free}
 use Rattle.searches.specs.Search.{free_session, session_of_client}
 use Rattle.broker.specs.declared.link.Link.TheVariants.{Rejected}

@@ -4,7 +4,7 @@ use Rattle.store.specs.Disk.{Disk}
 use Rattle.store.specs.declared.kind.Kind.{Kind}
 use Rattle.store.specs.declared.kind.Kind.TheVariants.{Session as SessionKind}
 use Rattle.writer.specs.Laws.{Bytes}
-use Rattle.messages.specs.Message.{Message, lawful_message, sessions}
+use Rattle.messages.specs.Message.{Message, lawful_message}
 use Rattle.searches.specs.At.{is_free, message_at}
 use Rattle.searches.specs.Search.{slots}
 use Rattle.acceptance.specs.Acceptance.{Acceptable, Stands, looked}
@@ -13,7 +13,7 @@ use Rattle.broker.specs.declared.answer.Refusal.TheVariants.{Down, NoSuchLink, W
 use Rattle.broker.specs.declared.link.Link.{Link}
 use Rattle.broker.specs.declared.link.Link.TheVariants.{Free, Opened, Connected, Rejected}
 use Rattle.broker.specs.Plan.{After}
-use Rattle.broker.specs.State.{Broker, closed, max_replies, new_broker, stopped}
+use Rattle.broker.specs.State.{Broker, closed, max_replies, stopped}
 use Rattle.broker.specs.Step.{Call, Step, restart, open', packet, take, cut, power}
 
 -- ---- one outcome

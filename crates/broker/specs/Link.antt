@@ -1,5 +1,5 @@
 -- Links, and the replies that wait on them.
-use Rattle.std.specs.Prelude.{ℕ, Bool, true, false, take, ◌==◌}
+use Rattle.std.specs.Prelude.{ℕ, Bool, false, take, ◌==◌}
 use Rattle.packets.specs.Packet.{Content, connack, puback, pubrec, pubrel, pubcomp, suback, unsuback, pingresp}
 use Rattle.broker.specs.declared.link.Link.{Link}
 use Rattle.broker.specs.declared.link.Link.TheVariants.{Free, Opened, Connected, Rejected}

@@ -1,5 +1,5 @@
 -- Every call decides from what it finds, writes its rows, and only then changes what the broker keeps.
-use Rattle.std.specs.Prelude.{ℕ, Bool, true, false, cond, List, [], ◌∷◌, Ok, Err, Result}
+use Rattle.std.specs.Prelude.{ℕ, cond, List, [], ◌∷◌, Ok, Err, Result}
 use Rattle.store.specs.Disk.{Disk, absent, put_answer, stands, drop_answer, removed}
 use Rattle.store.specs.declared.kind.Kind.{Kind}
 use Rattle.store.specs.declared.kind.Refusal.{Refusal as StoreRefusal}

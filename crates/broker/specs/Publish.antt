@@ -1,5 +1,5 @@
 -- A PUBLISH that comes, and the PUBREL that ends it.
-use Rattle.std.specs.Prelude.{ℕ, ◌+◌, Bool, true, false, cond, ◌||◌, List, [], ◌∷◌, ◌++◌, map, Some, None, Option, ◌==◌, nat_le}
+use Rattle.std.specs.Prelude.{ℕ, ◌+◌, Bool, cond, ◌||◌, List, [], ◌∷◌, map, Some, None, Option, ◌==◌, nat_le}
 use Rattle.std.specs.List.{range_with_len}
 use Rattle.store.specs.Disk.{Disk}
 use Rattle.store.specs.declared.kind.Kind.TheVariants.{Message as message}

@@ -1,9 +1,9 @@
 -- What a broker keeps in memory: what a restart may forget.
-use Rattle.std.specs.Prelude.{ℕ, zero, suc, ◌+◌, ◌%◌, Bool, true, false, cond, ◌&&◌, ◌||◌, List, [], ◌∷◌, ◌++◌, length, ◌==◌, nat_le}
+use Rattle.std.specs.Prelude.{ℕ, zero, suc, ◌+◌, ◌%◌, Bool, true, false, cond, ◌||◌, List, [], ◌∷◌, ◌++◌, length, ◌==◌, nat_le}
 use Rattle.packets.specs.Packet.{Content}
 use Rattle.searches.specs.Search.{slots}
 use Rattle.broker.specs.declared.link.Link.{Link}
-use Rattle.broker.specs.declared.link.Link.TheVariants.{Free, Opened, Connected, Rejected}
+use Rattle.broker.specs.declared.link.Link.TheVariants.{Free, Connected}
 use Rattle.broker.specs.Link.{is_at}
 
 -- links and the replies that wait on them, oldest first, by link; for each slot to which sessions its message was handed out

@@ -1,5 +1,5 @@
 -- What each call of the broker does.
-use Rattle.std.specs.Prelude.{◌≡◌, ℕ, Bool, true, false, cond, List, [], ◌∷◌, Ok, Err, Option, Result, nat_lt}
+use Rattle.std.specs.Prelude.{◌≡◌, ℕ, cond, List, [], ◌∷◌, Ok, Err, Result, nat_lt}
 use Rattle.store.specs.Disk.{Disk, powered}
 use Rattle.packets.specs.declared.packet.ReadError.{ReadError}
 use Rattle.packets.specs.declared.packet.ReadError.TheVariants.{Level as OtherLevel, Bad}
@@ -8,14 +8,13 @@ use Rattle.packets.specs.Reads.{reads}
 use Rattle.acceptance.specs.Acceptance.{accepts}
 use Rattle.acceptance.specs.declared.Verdict.{Verdict}
 use Rattle.acceptance.specs.declared.Verdict.TheVariants.{Accepted, Refused, TooSmall}
-use Rattle.broker.specs.declared.answer.Refusal.{Refusal}
 use Rattle.broker.specs.declared.answer.Refusal.TheVariants.{Down, NoSuchLink, WrongState, TooFewNumbers, BadRow, BadPacket, WrongPacket}
 use Rattle.broker.specs.declared.link.Link.{Link}
 use Rattle.broker.specs.declared.link.Link.TheVariants.{Free, Opened, Connected, Rejected}
 use Rattle.broker.specs.declared.link.Rejection.TheVariants.{Level}
 use Rattle.broker.specs.Connect.{Chosen, connect_plan, reject}
 use Rattle.broker.specs.Deliver.{ack_plan, acknowledged, complete_plan, outgoing, receive_plan, take_plan}
-use Rattle.broker.specs.Plan.{After, Plan, after, done, refuse, settle}
+use Rattle.broker.specs.Plan.{After, Plan, done, refuse, settle}
 use Rattle.broker.specs.Publish.{due, id_of, publish_plan, release_plan}
 use Rattle.broker.specs.State.{Broker, closed, link_count, queued, restarted, stopped, with_link}
 use Rattle.broker.specs.Subscribe.{subscribe_plan, unsubscribe_plan}

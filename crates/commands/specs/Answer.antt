@@ -1,5 +1,5 @@
 -- The answer to a line.
-use Rattle.std.specs.Prelude.{◌≡◌, ℕ, cond, ◌⊎◌, List, [], ◌∷◌, ◌++◌, Some, None, codes, Option, ◌≢◌}
+use Rattle.std.specs.Prelude.{◌≡◌, ℕ, cond, ◌⊎◌, List, [], ◌++◌, Some, None, codes, Option, ◌≢◌}
 use Rattle.packets.specs.Reads.{reads}
 use Rattle.lines.specs.Escape.{Bytes, escaped}
 use Rattle.lines.specs.Hex.{hex_in}

@@ -1,5 +1,5 @@
 -- The commands of the service tool.
-use Rattle.std.specs.Prelude.{ℕ, Bool, true, false, cond, not, ◌&&◌, List, [], ◌∷◌, length, codes, ◌==◌}
+use Rattle.std.specs.Prelude.{ℕ, Bool, cond, not, ◌&&◌, List, length, codes, ◌==◌}
 use Rattle.std.specs.Str.{bytes_eq}
 use Rattle.lines.specs.Words.{skip_blanks, word_in, after_word}
 use Rattle.commands.specs.declared.command.Command.{Command}

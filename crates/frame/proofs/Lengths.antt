@@ -1,5 +1,5 @@
 -- A length that is written reads back, and no shorter form does.
-use Rattle.std.proofs.Common.{◌≡◌, ℕ, zero, suc, ◌+◌, ◌*◌, ◌/◌, ◌%◌, ◌^◌, ◌<◌, ◌≤◌, Bool, true, false, cond, ltb, List, [], ◌∷◌, ◌++◌, length, Some, None, Option, sym, refl, ap, ◌∙◌, subst, div-lt_iff_lt-mul, pow-suc, add-one, arith, lit<, ltb-false, ltb-true, le-ltb, lt-ltb}
+use Rattle.std.proofs.Common.{◌≡◌, ℕ, zero, suc, ◌+◌, ◌*◌, ◌/◌, ◌%◌, ◌^◌, ◌<◌, ◌≤◌, Bool, true, false, cond, ltb, List, [], ◌∷◌, ◌++◌, length, Some, None, Option, sym, refl, ap, subst, div-lt_iff_lt-mul, pow-suc, add-one, arith, lit<, ltb-false, le-ltb}
 use Rattle.frame.specs.Length.{before, length_within, length_in, form_within, LengthLaw, ReadsBack, IsShortest}
 
 back_by : (k n : ℕ) (rest : List ℕ) (v : Bool) → ltb n 128 ≡ v → n < 128 ^ suc k → length_within (suc k) (form_within (suc k) n ++ rest) ≡ Some (n, length (form_within (suc k) n))

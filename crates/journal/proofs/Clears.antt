@@ -1,9 +1,9 @@
 -- What clearing dead changes keeps.
-use Rattle.std.proofs.Common.{◌≡◌, ℕ, zero, suc, ◌+◌, ◌<◌, ◌≤◌, Bool, true, false, cond, not, ◌&&◌, ◌||◌, eqb, ltb, List, [], ◌∷◌, ◌++◌, length, sym, refl, ap, ◌∙◌, subst, inl, inr, arith}
-use Rattle.std.proofs.lemmas.Bool.{true≢false, false≢true, cases_Bool, and_parts, and_cases, and_from, not-true, not-false, not_from_false, or_parts, or_left, or_right, cond-true, cond-false, ltb-true, ne_eqb}
+use Rattle.std.proofs.Common.{◌≡◌, ℕ, ◌+◌, Bool, true, false, cond, not, ◌&&◌, ◌||◌, List, [], ◌∷◌, ◌++◌, length, sym, refl, ap, ◌∙◌, inl, inr, arith}
+use Rattle.std.proofs.lemmas.Bool.{cases_Bool, and_parts, not-true, or_parts, or_right}
 use Rattle.store.specs.declared.kind.Kind.{Kind}
-use Rattle.journal.specs.Changes.{Change, of_key, puts, changed, replay, mentioned, live, weight, ClearingKeeps}
-use Rattle.journal.proofs.Folds.{by_push, own_key, at_key, row_after, replay_at, replay_push, row_unmentioned, row_mentioned, mentioned_push, no_row, same_mentioned, key_sym, key_apart, weight-puts}
+use Rattle.journal.specs.Changes.{Change, of_key, puts, replay, mentioned, live, weight}
+use Rattle.journal.proofs.Folds.{row_after, replay_at, row_unmentioned, row_mentioned, mentioned_push, no_row, same_mentioned, key_sym, key_apart, weight-puts}
 
 -- a change that later ones leave alive
 abbrev pub lives : Change → List Change → Bool

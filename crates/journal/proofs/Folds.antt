@@ -1,5 +1,5 @@
 -- What a list of changes says of one key: the row that it leaves there, and whether it speaks of the key at all.
-use Rattle.std.proofs.Common.{◌≡◌, ℕ, ◌+◌, ◌<◌, ◌≤◌, Bool, true, false, cond, not, ◌&&◌, ◌||◌, eqb, ltb, List, [], ◌∷◌, ◌++◌, length, fold, sym, refl, ap, ◌∙◌, subst, inl, inr, arith}
+use Rattle.std.proofs.Common.{◌≡◌, ℕ, true, false, cond, ◌&&◌, ◌||◌, eqb, List, [], ◌∷◌, ◌++◌, length, fold, sym, refl, subst, inl, inr, arith}
 use Rattle.std.proofs.lemmas.List.{append-nil, append_assoc, nil_from_length}
 use Rattle.std.proofs.lemmas.List.Sums.{fold_push}
 use Rattle.std.proofs.lemmas.Bool.{true≢false, false≢true, both_ways, cases_Bool, eqb-true, eq-eqb, and_parts, or_parts, ltb-false}
@@ -7,7 +7,7 @@ use Rattle.std.proofs.lemmas.Bool.Decides.{nat_tests}
 use Rattle.store.specs.declared.kind.Kind.{Kind}
 use Rattle.store.specs.declared.kind.Kind.TheVariants.{Session, Message}
 use Rattle.store.specs.Kind.{same_kind}
-use Rattle.journal.specs.Changes.{Change, of_key, puts, changed, replay, mentioned, live, weight}
+use Rattle.journal.specs.Changes.{Change, of_key, puts, changed, replay, mentioned, weight}
 
 -- induction on lists that grow at their end
 pub by_push : {X : Type 0} (P : List X → Type 0) → P [] → ((xs : List X) (x : X) → P xs → P (xs ++ x ∷ [])) → (xs : List X) → P xs

@@ -1,12 +1,12 @@
 -- What one change more does to the rows and counts of a journal.
-use Rattle.std.proofs.Common.{◌≡◌, ℕ, ◌+◌, ◌-◌, ◌<◌, ◌≤◌, Bool, true, false, cond, not, ◌&&◌, eqb, ltb, leb, List, [], ◌∷◌, ◌++◌, length, Ok, Err, Result, sym, refl, ap, ◌∙◌, subst, arith}
-use Rattle.std.proofs.lemmas.Bool.{lt-ltb, le-leb, ne_eqb, cond-true, cond-false, cond_both}
+use Rattle.std.proofs.Common.{◌≡◌, ℕ, ◌+◌, ◌-◌, ◌<◌, ◌≤◌, Bool, true, false, cond, ◌&&◌, eqb, ltb, List, [], ◌∷◌, ◌++◌, length, Ok, Err, Result, sym, refl, ap, ◌∙◌, subst, arith}
+use Rattle.std.proofs.lemmas.Bool.{lt-ltb, le-leb, ne_eqb, cond-false, cond_both}
 use Rattle.store.specs.declared.kind.Kind.{Kind}
 use Rattle.store.specs.declared.kind.Refusal.{Refusal}
 use Rattle.store.specs.declared.kind.Refusal.TheVariants.{NoRoom}
 use Rattle.store.specs.Disk.{Disk, absent, put_answer, drop_answer, load_answer}
 use Rattle.journal.specs.declared.key.Key.{Key}
-use Rattle.journal.specs.Changes.{Change, change_to, changed, replay, live, appended, weight}
+use Rattle.journal.specs.Changes.{Change, changed, replay, live, appended, weight}
 use Rattle.journal.proofs.Folds.{replay_push}
 use Rattle.journal.proofs.Clears.{replay-live, live_again, count_live}
 

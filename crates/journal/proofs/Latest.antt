@@ -1,5 +1,5 @@
 -- Where the latest change of a key stands.
-use Rattle.std.proofs.Common.{◌≡◌, ℕ, zero, suc, ◌+◌, ◌<◌, ◌≤◌, Bool, true, false, cond, not, ◌&&◌, ◌||◌, eqb, ltb, List, [], ◌∷◌, ◌++◌, length, get_or, set, Some, None, Option, sym, refl, ap, ◌∙◌, subst, inl, inr, arith}
+use Rattle.std.proofs.Common.{◌≡◌, ℕ, zero, suc, ◌+◌, ◌<◌, ◌≤◌, Bool, true, false, cond, ◌&&◌, ◌||◌, eqb, List, [], ◌∷◌, ◌++◌, length, get_or, set, Some, None, Option, sym, refl, ap, ◌∙◌, subst, inl, inr, arith}
 use Rattle.std.proofs.lemmas.List.{get_or_append_left, get_or_push, get_or-set_same, get_or-set_other, length_push}
 use Rattle.std.proofs.lemmas.Bool.{true≢false, false≢true, both_ways, cases_Bool, cond-true, cond-false, ltb-true, eqb-false}
 use Rattle.store.specs.declared.kind.Kind.{Kind}
@@ -7,10 +7,10 @@ use Rattle.store.specs.declared.kind.Kind.TheVariants.{Session, Message}
 use Rattle.store.specs.Kind.{same_kind}
 use Rattle.store.specs.Making.{made_limit}
 use Rattle.journal.specs.Key.{slot}
-use Rattle.journal.specs.Changes.{Change, of_key, puts, changed, replay, mentioned, Inside}
+use Rattle.journal.specs.Changes.{Change, of_key, puts, replay, mentioned, Inside}
 use Rattle.journal.specs.Entry.{no_change, slot_of}
 use Rattle.journal.specs.Index.{noted, latest_from, latest, Knows}
-use Rattle.journal.proofs.Folds.{by_push, own_key, at_key, replay_push, no_row}
+use Rattle.journal.proofs.Folds.{by_push, at_key, replay_push, no_row}
 
 pub none_push : (xs : List (Option ℕ)) (i : ℕ) → ((j : ℕ) → get_or xs j None ≡ None) → get_or (xs ++ None ∷ []) i None ≡ None
 none_push [] zero h = refl

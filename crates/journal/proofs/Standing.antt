@@ -1,5 +1,5 @@
 -- How many rows stand, and that as many changes are live.
-use Rattle.std.proofs.Common.{◌≡◌, ℕ, zero, suc, ◌+◌, ◌*◌, ◌<◌, ◌≤◌, Bool, true, false, cond, ◌&&◌, eqb, ltb, List, [], ◌∷◌, ◌++◌, length, sym, refl, ap, ◌∙◌, inl, inr, arith}
+use Rattle.std.proofs.Common.{◌≡◌, ℕ, zero, suc, ◌+◌, ◌*◌, ◌<◌, ◌≤◌, cond, eqb, ltb, List, [], ◌∷◌, ◌++◌, length, sym, refl, ap, inl, inr, arith}
 use Rattle.std.specs.List.{AllByRecursion as All}
 use Rattle.std.proofs.lemmas.List.{length_push}
 use Rattle.std.proofs.lemmas.Bool.{cases_eq, cond_both, ltb-true, le-ltb, cond-true, cond-false, ne_eqb, eq-eqb}
@@ -8,7 +8,7 @@ use Rattle.store.specs.declared.kind.Kind.TheVariants.{Session, Message}
 use Rattle.store.specs.Disk.{with_row}
 use Rattle.store.specs.Making.{made_limit}
 use Rattle.journal.specs.Changes.{Change, changed, replay, live, weight, standing_below, standing, Inside, appended, RoomLeft, ClearingKeeps}
-use Rattle.journal.proofs.Folds.{by_push, own_key, replay_push}
+use Rattle.journal.proofs.Folds.{by_push, replay_push}
 use Rattle.journal.proofs.Clears.{replay-live, live_again, count_live}
 
 none_below : (n : ℕ) → standing_below n (λ m. []) ≡ 0

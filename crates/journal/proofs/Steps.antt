@@ -1,15 +1,14 @@
 -- A clearing, change by change.
-use Rattle.std.proofs.Common.{◌≡◌, ℕ, zero, suc, ◌+◌, ◌<◌, ◌≤◌, Bool, true, false, cond, not, ◌&&◌, ◌||◌, List, [], ◌∷◌, ◌++◌, length, get_or, take, drop, set, Some, None, Option, sym, refl, ap, ◌∙◌, subst, inl, inr, arith}
+use Rattle.std.proofs.Common.{◌≡◌, ℕ, ◌+◌, ◌<◌, ◌≤◌, Bool, true, false, cond, List, [], ◌∷◌, ◌++◌, length, get_or, take, drop, set, Some, None, Option, sym, refl, ap, ◌∙◌, inl, inr, arith}
 use Rattle.std.proofs.lemmas.List.{append-nil, append_assoc, drop_more, drop-drop, drop_all, length-set, length-take, get_or-set_same, get_or-set_other}
 use Rattle.std.proofs.lemmas.Bool.{false≢true, both_ways, cases_Bool, cond-true, cond-false, or_parts, or_cases, or_left, eq-eqb, eqb-true}
 use Rattle.store.specs.declared.kind.Kind.{Kind}
-use Rattle.store.specs.Making.{made_limit}
 use Rattle.journal.specs.Key.{slot}
 use Rattle.journal.specs.Changes.{Change, of_key, puts, mentioned, live, Inside}
 use Rattle.journal.specs.Entry.{no_change, slot_of, MovedDown}
 use Rattle.journal.specs.Index.{noted, latest_from, latest, Knows, Clearing, points_at}
 use Rattle.journal.proofs.Folds.{own_key, mentioned_push, same_mentioned}
-use Rattle.journal.proofs.Clears.{lives, live_last, dead_mentioned, lives_puts}
+use Rattle.journal.proofs.Clears.{lives, live_last, lives_puts}
 use Rattle.journal.proofs.Latest.{latest_unmentioned, latest-mentioned, latest_push, found_later, slot_apart, slot_same, slot_bound}
 
 none_some : (p : ℕ) → ◌≡◌ {A = Option ℕ} None (Some p) → ⊥

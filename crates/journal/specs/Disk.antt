@@ -1,5 +1,5 @@
 -- The disk that a journal shows, and the changes behind it.
-use Rattle.std.specs.Prelude.{◌≡◌, ℕ, cond, not, ◌&&◌, List, [], is_ok, Result}
+use Rattle.std.specs.Prelude.{ℕ, cond, not, ◌&&◌, List, [], is_ok, Result}
 use Rattle.store.specs.declared.kind.Kind.{Kind}
 use Rattle.store.specs.declared.kind.Refusal.{Refusal}
 use Rattle.store.specs.Disk.{Disk, absent}

@@ -1,13 +1,11 @@
 -- Messages and their rows.
-use Rattle.std.proofs.Common.{◌≡◌, ℕ, zero, suc, ◌+◌, ◌*◌, ◌/◌, ◌%◌, ◌^◌, ◌<◌, ◌≤◌, Bool, true, false, cond, ◌&&◌, eqb, ltb, leb, ◌≢◌, List, [], ◌∷◌, ◌++◌, length, get_or, is_some, Some, None, Option, sym, refl, ap, ◌∙◌, subst, arith, lit<, length-append}
-use Rattle.std.proofs.lemmas.Bool.{and_parts, and_from, eq-eqb, ne_eqb, eqb-true, eqb-false, ltb-true, lt-ltb, leb-true}
-use Rattle.topics.specs.Levels.{levels}
+use Rattle.std.proofs.Common.{◌≡◌, ℕ, suc, ◌+◌, ◌*◌, ◌/◌, ◌%◌, ◌^◌, ◌<◌, ◌≤◌, Bool, true, false, cond, ◌&&◌, eqb, ltb, leb, ◌≢◌, List, [], ◌∷◌, ◌++◌, length, get_or, Some, None, Option, sym, refl, ap, ◌∙◌, subst, arith, length-append}
+use Rattle.std.proofs.lemmas.Bool.{and_parts, and_from, eq-eqb, ne_eqb, eqb-true, ltb-true, lt-ltb, leb-true}
 use Rattle.topics.specs.Text.{is_text}
 use Rattle.topics.specs.Names.{is_topic_name, max_topic, plain, sized}
 use Rattle.rows.specs.Text.{text_bytes, text_in}
 use Rattle.rows.proofs.Texts.{text_there, text_back}
 use Rattle.messages.specs.declared.parts.Origin.{Origin}
-use Rattle.messages.specs.declared.parts.Target.{Target}
 use Rattle.messages.specs.Target.{bind, lawful_targets, map_of, target_bytes, targets_in}
 use Rattle.messages.specs.Message.{Message, MessageLaw, decode, encode, four_bytes, held, lawful_message, lawful_origin, max_payload, number_in, of_parts, origin_bytes, origin_in, origin_of, sessions}
 use Rattle.messages.proofs.Targets.{bind_some, cond_some, map_small, none_some, some_inj, targets_back, targets_short, targets_there}

@@ -1,15 +1,15 @@
 -- Message rows read step by step, as the code has it.
-use Rattle.std.proofs.Common.{◌≡◌, ℕ, zero, suc, ◌+◌, ◌-◌, ◌*◌, ◌/◌, ◌%◌, ◌^◌, ◌<◌, ◌≤◌, Bool, true, false, cond, not, ◌&&◌, ◌||◌, eqb, ltb, leb, List, [], ◌∷◌, ◌++◌, length, get_or, take, drop, is_some, Some, None, Option, sym, refl, ap, ◌∙◌, subst, arith}
+use Rattle.std.proofs.Common.{◌≡◌, ℕ, zero, suc, ◌+◌, ◌-◌, ◌*◌, ◌/◌, ◌%◌, ◌<◌, ◌≤◌, Bool, true, false, cond, not, ◌&&◌, ◌||◌, eqb, ltb, leb, List, [], ◌∷◌, length, get_or, take, drop, is_some, Some, None, Option, sym, refl, ap, ◌∙◌, arith}
 use Rattle.std.proofs.lemmas.List.{take_all}
-use Rattle.std.proofs.lemmas.Bool.{eq-eqb, ne_eqb, eqb-true}
+use Rattle.std.proofs.lemmas.Bool.{eq-eqb, ne_eqb}
 use Rattle.topics.specs.Names.{is_topic_name}
 use Rattle.rows.specs.Text.{text_in}
 use Rattle.messages.specs.declared.parts.Origin.{Origin}
 use Rattle.messages.specs.declared.parts.Target.{Target}
 use Rattle.messages.specs.Target.{add_front, bind, map_of, some_target, target_in, target_of, targets_in}
-use Rattle.messages.specs.Message.{Message, decode, from_map, from_origin, from_rank, from_targets, from_topic, held, max_payload, number_in, of_parts, origin_in, origin_of, sessions}
+use Rattle.messages.specs.Message.{Message, decode, from_map, from_origin, from_rank, from_targets, from_topic, max_payload, number_in, origin_in, origin_of}
 use Rattle.messages.specs.View.{owed, owed_rest, rest_of}
-use Rattle.messages.proofs.Targets.{bind_some, none_some, some_inj, targets_back}
+use Rattle.messages.proofs.Targets.{none_some, some_inj, targets_back}
 
 pub number_four : (bs : List ℕ) → 4 ≤ length bs → Some (get_or bs 0 0 * 16777216 + get_or bs 1 0 * 65536 + get_or bs 2 0 * 256 + get_or bs 3 0, take (length bs - 4) (drop 4 bs)) ≡ number_in bs
 number_four [] h = absurd (omega arith)

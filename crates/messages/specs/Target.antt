@@ -1,5 +1,5 @@
 -- Targets of a message.
-use Rattle.std.specs.Prelude.{◌≡◌, ℕ, zero, suc, ◌+◌, ◌*◌, ◌/◌, ◌%◌, Bool, true, false, cond, ◌&&◌, List, [], ◌∷◌, ◌++◌, Some, None, Option, ◌==◌, nat_le}
+use Rattle.std.specs.Prelude.{ℕ, zero, suc, ◌+◌, ◌*◌, ◌/◌, ◌%◌, Bool, true, false, cond, ◌&&◌, List, [], ◌∷◌, Some, None, Option, ◌==◌, nat_le}
 use Rattle.topics.specs.Qos.{qos_number, qos_of}
 use Rattle.messages.specs.declared.parts.State.{State}
 use Rattle.messages.specs.declared.parts.State.TheVariants.{Waiting, Sent, Released}

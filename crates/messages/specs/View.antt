@@ -1,7 +1,6 @@
 -- Message rows as views that borrow from them.
 use Rattle.std.specs.Prelude.{ℕ, zero, suc, ◌/◌, ◌%◌, cond, List, [], ◌∷◌, Some, None, Option, ◌==◌}
 use Rattle.std.specs.Borrow.{Bor}
-use Rattle.messages.specs.declared.parts.Origin.{Origin}
 use Rattle.messages.specs.declared.parts.Target.{Target}
 use Rattle.messages.specs.declared.view.MessageRow.{MessageRow}
 use Rattle.messages.specs.declared.view.Targets.{Targets}

@@ -1,6 +1,6 @@
 -- A run of pushes and pops is a run of a list queue.
-use Rattle.std.proofs.Common.{◌≡◌, ℕ, suc, ◌+◌, ◌<◌, ◌≤◌, List, [], ◌∷◌, ◌++◌, length, get_or, take, drop, set, Some, None, Ok, Err, Option, Result, sym, refl, ap, ◌∙◌, subst, append_assoc, append-nil, arith, length-append, length-set, drop-set-lt}
-use Rattle.std.specs.List.{flat_map, slice_get}
+use Rattle.std.proofs.Common.{◌≡◌, ℕ, ◌+◌, ◌<◌, List, [], ◌∷◌, ◌++◌, length, get_or, take, drop, set, Some, None, Ok, Err, sym, refl, ap, ◌∙◌, subst, append_assoc, append-nil, arith, length-set, drop-set-lt}
+use Rattle.std.specs.List.{slice_get}
 use Rattle.std.proofs.lemmas.List.{flat_map_more, length_push, take_more, take_more_set, drop-drop}
 use Rattle.std.proofs.lemmas.Bool.{cond_below, cond_above}
 use Rattle.ring.specs.declared.Ring.{Ring}

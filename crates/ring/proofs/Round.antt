@@ -1,8 +1,8 @@
 -- The memory read round: its length, what stands where, a write into it, and one step on.
-use Rattle.std.proofs.Common.{◌≡◌, ℕ, ◌+◌, ◌-◌, ◌%◌, ◌<◌, ◌≤◌, ◌⊎◌, List, [], ◌∷◌, ◌++◌, length, get_or, take, drop, set, sym, ap, ◌∙◌, inl, inr, ⊎_elim, append_assoc, append-nil, mod-lt, mod-eq_of_lt, add-one, arith, length-append, length-drop, length-take, drop-set-lt}
+use Rattle.std.proofs.Common.{◌≡◌, ℕ, ◌+◌, ◌-◌, ◌%◌, ◌<◌, ◌≤◌, List, [], ◌∷◌, ◌++◌, length, get_or, take, drop, set, sym, ap, ◌∙◌, ⊎_elim, append_assoc, append-nil, mod-lt, mod-eq_of_lt, arith, length-append, length-drop, length-take, drop-set-lt}
 use native.Mathlib.Nat.{mod-add-mod, mod-eq-sub-mod}
 use lib.Seq.{take-set-lt, take-set-le, drop-set-add}
-use Rattle.std.proofs.lemmas.List.{take_more, drop_more, drop_all, take_all, get_or_append_left, get_or-append_right, get_or-drop, get_or-take, set-append_left, set-append_right, take-append-le}
+use Rattle.std.proofs.lemmas.List.{take_more, drop_more, drop_all, take_all, get_or_append_left, get_or-append_right, get_or-drop, get_or-take, set-append_left, set-append_right}
 use Rattle.std.proofs.lemmas.Bool.{cases_lt}
 use Rattle.ring.specs.Ring.{round}
 

@@ -1,5 +1,5 @@
 -- What is left in a ring when the entries that a test picks are gone.
-use Rattle.std.specs.Prelude.{◌≡◌, ℕ, ◌%◌, Bool, not, List, ◌++◌, length, drop, filter}
+use Rattle.std.specs.Prelude.{◌≡◌, ◌%◌, Bool, not, List, ◌++◌, length, drop, filter}
 use Rattle.ring.specs.declared.Ring.{Ring}
 use Rattle.ring.specs.Ring.{round, waiting}
 

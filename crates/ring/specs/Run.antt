@@ -1,5 +1,5 @@
 -- Whole runs of pushes and pops, and the list queue that they are held to.
-use Rattle.std.specs.Prelude.{◌≡◌, ℕ, cond, List, [], ◌∷◌, ◌++◌, length, drop, Ok, Err, Option, Result, nat_lt}
+use Rattle.std.specs.Prelude.{◌≡◌, ℕ, cond, List, [], ◌∷◌, ◌++◌, length, drop, Ok, Err, nat_lt}
 use Rattle.std.specs.Option.{option_to_list}
 use Rattle.std.specs.List.{flat_map, slice_get}
 use Rattle.ring.specs.declared.Ring.{Ring}
@@ -7,7 +7,7 @@ use Rattle.ring.specs.declared.run.Step.{Step}
 use Rattle.ring.specs.declared.run.Step.TheVariants.{Push, Pop}
 use Rattle.ring.specs.declared.run.Answer.{Answer}
 use Rattle.ring.specs.declared.run.Answer.TheVariants.{OfPush, OfPop}
-use Rattle.ring.specs.Ring.{waiting, Pushed, Popped}
+use Rattle.ring.specs.Ring.{Pushed, Popped}
 
 -- one step is a push or a pop, with its own answer
 abbrev pub Stepped : {T : Type 0} → Ring → List T → Step T → Answer T → Ring → List T → Type 0

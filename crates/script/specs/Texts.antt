@@ -1,5 +1,5 @@
 -- The lines that the rig prints.
-use Rattle.std.specs.Prelude.{ℕ, cond, List, [], ◌∷◌, ◌++◌, length, Ok, Err, codes, decimal, Result, ◌==◌}
+use Rattle.std.specs.Prelude.{ℕ, cond, List, [], ◌++◌, length, Ok, Err, codes, decimal, Result, ◌==◌}
 use Rattle.store.specs.declared.kind.Kind.{Kind}
 use Rattle.store.specs.declared.kind.Refusal.{Refusal}
 use Rattle.store.specs.declared.kind.Refusal.TheVariants.{Bad, Gone, NoRoom}

@@ -1,5 +1,5 @@
 -- What is looked for among the rows of a broker.
-use Rattle.std.specs.Prelude.{ℕ, ◌/◌, ◌%◌, ◌^◌, Bool, true, false, cond, ◌&&◌, List, is_some, Some, None, Option, ◌==◌, nat_lt, slice_index, slice_index_or}
+use Rattle.std.specs.Prelude.{ℕ, ◌/◌, ◌%◌, ◌^◌, Bool, false, cond, ◌&&◌, List, is_some, Some, None, Option, ◌==◌, nat_lt, slice_index, slice_index_or}
 use Rattle.std.specs.Str.{bytes_eq}
 use Rattle.store.specs.Disk.{Disk}
 use Rattle.store.specs.declared.kind.Kind.TheVariants.{Session as SessionKind, Message as MessageKind}

@@ -1,5 +1,5 @@
 -- A session's filters after subscriptions and unsubscriptions.
-use Rattle.std.specs.Prelude.{◌≡◌, ℕ, ◌≤◌, Bool, true, false, cond, not, ◌||◌, List, [], ◌∷◌, ◌++◌, map, length, Some, None, Option, nat_lt}
+use Rattle.std.specs.Prelude.{◌≡◌, ℕ, ◌≤◌, Bool, true, false, cond, ◌||◌, List, [], ◌∷◌, ◌++◌, map, length, Some, None, Option, nat_lt}
 use Rattle.std.specs.Str.{bytes_eq}
 use Rattle.topics.specs.Names.{is_topic_filter}
 use Rattle.topics.specs.Subscription.{Subscribed}

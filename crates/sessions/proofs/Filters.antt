@@ -1,11 +1,11 @@
 -- Filters in rows.
-use Rattle.std.proofs.Common.{◌≡◌, ℕ, zero, suc, ◌+◌, ◌-◌, ◌*◌, ◌<◌, ◌≤◌, Bool, true, false, cond, not, ◌&&◌, ◌||◌, eqb, leb, List, [], ◌∷◌, ◌++◌, length, Some, None, Option, sym, refl, ap, ◌∙◌, subst, append_assoc, arith, length-append}
+use Rattle.std.proofs.Common.{◌≡◌, ℕ, zero, suc, ◌*◌, ◌≤◌, Bool, true, false, cond, not, ◌&&◌, leb, List, [], ◌∷◌, ◌++◌, length, Some, None, Option, sym, refl, ap, ◌∙◌, subst, arith, length-append}
 use Rattle.std.specs.List.{flat_map}
-use Rattle.std.proofs.lemmas.Bool.{and_parts, and_from, not-true, not_from_false, leb-true, le-leb, both_ways}
+use Rattle.std.proofs.lemmas.Bool.{and_parts, and_from, not-true, not_from_false, leb-true}
 use Rattle.topics.specs.Levels.{levels}
 use Rattle.topics.specs.Text.{is_text}
 use Rattle.topics.specs.Names.{is_client_id, is_topic_filter, lawful, sized, max_topic, max_client_id}
-use Rattle.topics.specs.Qos.{qos_number, qos_of}
+use Rattle.topics.specs.Qos.{qos_of}
 use Rattle.topics.specs.Subscription.{Subscribed}
 use Rattle.topics.specs.declared.qos.Qos.{Qos}
 use Rattle.topics.proofs.Qualities.{qos_law}

@@ -1,5 +1,5 @@
 -- Session rows as views that borrow from them.
-use Rattle.std.specs.Prelude.{ℕ, zero, suc, Bool, true, false, cond, ◌&&◌, List, [], ◌∷◌, is_some, Some, None, Ok, Err, Option, Result, nat_le}
+use Rattle.std.specs.Prelude.{ℕ, zero, suc, Bool, cond, ◌&&◌, List, [], ◌∷◌, is_some, Some, None, Ok, Err, Option, Result, nat_le}
 use Rattle.std.specs.Borrow.{Bor}
 use Rattle.topics.specs.Names.{is_client_id}
 use Rattle.topics.specs.Subscription.{Subscribed, subscribed}

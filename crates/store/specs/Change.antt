@@ -1,5 +1,5 @@
 -- Changes made to a store one after another: which are done, and what the done ones make of it.
-use Rattle.std.specs.Prelude.{◌≡◌, ℕ, ◌<◌, ◌≤◌, Bool, true, cond, ◌⊎◌, List, [], ◌∷◌, length, is_ok, Ok, Err, vec_items, Decides, fold, Result, Vec}
+use Rattle.std.specs.Prelude.{◌≡◌, ℕ, ◌<◌, ◌≤◌, cond, ◌⊎◌, List, [], ◌∷◌, length, is_ok, Ok, Err, vec_items, Decides, fold, Result, Vec}
 use Rattle.std.specs.declared.alloc.AllocError.{AllocError}
 use Rattle.std.specs.declared.alloc.Global.{Global}
 use Rattle.store.specs.declared.kind.Kind.{Kind}

@@ -66,7 +66,9 @@ fn windows_side_by_side_share_the_free_rows(rt: HostRuntime) -> Result<(), Fail>
     };
     let none = right.put(Kind::Message, 0, b"a");
     assert!(rt;
-        (outcomes.as_slice() == [Ok(())].as_slice()) & (none == Err(Refusal::Bad)) & (right.free() == 0)
+        (outcomes.as_slice() == [Ok(())].as_slice())
+            & (none == Err(Refusal::Bad))
+            & (right.free() == 0)
     );
     Ok(())
 }

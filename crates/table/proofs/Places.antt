@@ -1,5 +1,5 @@
 -- What a write does to the disk that a table shows.
-use Rattle.std.proofs.Common.{◌≡◌, ℕ, zero, suc, ◌+◌, ◌-◌, ◌<◌, ◌≤◌, Bool, true, false, cond, ◌&&◌, eqb, ltb, leb, ◌⊎◌, List, [], ◌∷◌, ◌++◌, map, length, get_or, drop, set, replicate, Some, None, Ok, Option, sym, refl, ap, ◌∙◌, subst, inl, inr, arith}
+use Rattle.std.proofs.Common.{◌≡◌, ℕ, zero, suc, ◌+◌, ◌-◌, ◌<◌, ◌≤◌, Bool, true, false, cond, ◌&&◌, eqb, ltb, leb, ◌⊎◌, List, [], ◌++◌, length, get_or, drop, set, replicate, Some, None, Ok, Option, sym, refl, ap, ◌∙◌, subst, inl, inr, arith}
 use Rattle.std.proofs.lemmas.List.{get_or-set_same, get_or-set_other}
 use Rattle.std.proofs.lemmas.List.Sums.{sum_by-set, sum_by-cons}
 use Rattle.std.proofs.lemmas.Bool.{lt-ltb, ltb-true, eqb-true, ne_eqb, cond-true, cond-false, and_parts}
@@ -8,7 +8,7 @@ use Rattle.store.proofs.Rows.{same_disk, same_kind_lem, load_ok, put_ok, drop_ok
 use Rattle.store.specs.declared.kind.Kind.{Kind}
 use Rattle.store.specs.declared.kind.Kind.TheVariants.{Session, Message}
 use Rattle.store.specs.Kind.{same_kind}
-use Rattle.store.specs.Disk.{Disk, with_row, absent, load_answer, put_answer, drop_answer, stands, removed}
+use Rattle.store.specs.Disk.{with_row, absent, load_answer, put_answer, drop_answer, stands, removed}
 use Rattle.store.specs.Row.{read_answer}
 use Rattle.store.specs.Making.{made_limit, empty_disk}
 use Rattle.table.specs.Rows.{counts, standing}

@@ -2,7 +2,7 @@
 use Rattle.std.specs.Prelude.{ℕ, ◌+◌, cond, List, [], nat_lt, slice_index_or}
 use Rattle.store.specs.declared.kind.Kind.{Kind}
 use Rattle.store.specs.declared.kind.Kind.TheVariants.{Session, Message}
-use Rattle.store.specs.Disk.{Disk, Sound}
+use Rattle.store.specs.Disk.{Disk}
 use Rattle.store.specs.Making.{made_limit}
 use Rattle.table.specs.declared.Table.{Table}
 use Rattle.table.specs.Rows.{contents}

@@ -2,7 +2,6 @@
 use Rattle.std.proofs.Common.{◌≡◌, ℕ, Bool, true, false, cond, not, eqb, List, [], ◌∷◌, ◌++◌, sym, refl, ap, ◌∙◌, subst}
 use Rattle.std.specs.List.{AllByRecursion as All}
 use Rattle.std.proofs.lemmas.Bool.{eq-eqb, ne_eqb, eqb-true, and_parts, and_from, not_from_false, not-true, cond-true, cond-false}
-use Rattle.topics.specs.Text.{every}
 use Rattle.topics.specs.Levels.{LevelsLaw, levels, in_front, with_slashes, unslashed}
 
 -- there is always a first level

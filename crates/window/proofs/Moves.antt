@@ -1,5 +1,5 @@
 -- What a change below does to what a window shows, and to what lies around it.
-use Rattle.std.proofs.Common.{◌≡◌, ℕ, ◌+◌, ◌-◌, ◌<◌, min, Bool, true, false, cond, ◌&&◌, eqb, ltb, leb, List, [], length, is_ok, sym, refl, ap, ◌∙◌, arith}
+use Rattle.std.proofs.Common.{◌≡◌, ℕ, ◌+◌, ◌-◌, ◌<◌, Bool, true, false, cond, ◌&&◌, eqb, ltb, leb, List, [], length, is_ok, sym, refl, ap, ◌∙◌, arith}
 use Rattle.std.proofs.lemmas.Bool.Decides.{nat_tests}
 use Rattle.std.proofs.lemmas.Bool.{lt-ltb, cond-true}
 use Rattle.store.proofs.Rows.{same_disk, same_kind_lem}
@@ -8,7 +8,7 @@ use Rattle.store.specs.Kind.{same_kind}
 use Rattle.store.specs.Disk.{Disk, with_row, absent, put_answer, put_after, drop_answer, drop_after, stands, removed}
 use Rattle.store.specs.Change.{Outcome}
 use Rattle.window.specs.declared.span.Spans.{Spans}
-use Rattle.window.specs.Span.{base_of, width_of}
+use Rattle.window.specs.Span.{base_of}
 use Rattle.window.specs.View.{view, view_limit, covers, around}
 
 -- the row written, by its number in the window or below, where s says that the kinds are one

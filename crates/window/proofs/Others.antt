@@ -1,7 +1,7 @@
 -- What calls through one window leave of another, and of a store that was lent.
-use Rattle.std.proofs.Common.{◌≡◌, ℕ, ◌+◌, ◌-◌, ◌<◌, ◌≤◌, min, Bool, true, false, cond, ◌&&◌, ltb, leb, List, [], sym, refl, ap, ◌∙◌, inl, inr, arith}
+use Rattle.std.proofs.Common.{◌≡◌, ℕ, ◌+◌, ◌-◌, ◌<◌, min, Bool, true, false, cond, ltb, leb, List, [], sym, refl, ap, ◌∙◌, inl, inr, arith}
 use base.Fml.{GName}
-use Rattle.std.proofs.lemmas.Bool.{cases_Bool, ltb-true, leb-true, and_parts, cond-true, cond-false}
+use Rattle.std.proofs.lemmas.Bool.{cases_Bool, ltb-true, leb-true, and_parts, cond-false}
 use Rattle.store.specs.declared.kind.Kind.{Kind}
 use Rattle.store.specs.Disk.{Disk}
 use Rattle.window.specs.declared.span.Spans.{Spans}

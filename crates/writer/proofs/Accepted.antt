@@ -1,8 +1,7 @@
 -- Whatever is read of bytes is lawful.
-use Rattle.std.proofs.Common.{◌≡◌, ℕ, zero, suc, ◌+◌, ◌-◌, ◌*◌, ◌/◌, ◌%◌, ◌<◌, ◌≤◌, Bool, true, false, cond, not, ◌&&◌, eqb, ltb, leb, List, [], ◌∷◌, ◌++◌, length, take, drop, Some, None, Ok, Err, Option, Result, sym, refl, ap, ◌∙◌, subst, arith, length-append, length-drop, length-take}
+use Rattle.std.proofs.Common.{◌≡◌, ℕ, zero, suc, ◌+◌, ◌*◌, ◌/◌, ◌%◌, ◌<◌, ◌≤◌, Bool, true, false, cond, not, ◌&&◌, eqb, ltb, leb, List, [], ◌∷◌, length, take, drop, Some, None, Ok, Err, Option, Result, sym, refl, ap, ◌∙◌, subst, arith, length-append, length-drop, length-take}
 use Rattle.std.proofs.ByRecursion.{All-drop}
 use Rattle.std.proofs.lemmas.Bool.Decides.{nat_tests}
-use Rattle.std.specs.List.{AllByRecursion as All}
 use Rattle.std.specs.Str.{bytes_eq}
 use Rattle.frame.specs.declared.field.BadField.{BadField}
 use Rattle.frame.specs.declared.field.Field.{Field}
@@ -18,11 +17,10 @@ use Rattle.topics.specs.Qos.{qos_of}
 use Rattle.topics.specs.Names.{is_topic_filter, is_topic_name}
 use Rattle.topics.specs.Text.{every, is_text}
 use Rattle.packets.specs.declared.packet.ReadError.{ReadError}
-use Rattle.packets.specs.declared.packet.ReadError.TheVariants.{Level, Bad}
 use Rattle.packets.specs.Bytes.{body_of, entries_bytes, entry_bytes, is_asked, is_id, lawful, lawful_entries, lawful_fields, lawful_flow}
-use Rattle.packets.specs.Fields.{byte_in, cut, ended, identified, identifier_in, judged, length_prefixed, only_identifier, onward, text_in}
+use Rattle.packets.specs.Fields.{byte_in, ended, identified, identifier_in, judged, length_prefixed, only_identifier, onward, text_in}
 use Rattle.packets.specs.Filters.{Entry, Found, after_filter, asked, asked_in, before, filter_in, filters_in, some_filters}
-use Rattle.packets.specs.Packet.{Content, connect, connack, publish, puback, pubrec, pubrel, pubcomp, subscribe, suback, unsubscribe, unsuback, pingreq, pingresp, disconnect}
+use Rattle.packets.specs.Packet.{Content, publish, puback, pubrec, pubrel, pubcomp, suback, unsuback, pingreq, pingresp, disconnect}
 use Rattle.packets.specs.Reads.{ack_in, after_flags, after_keep_alive, after_level, after_name, after_parts, after_present, after_topic, body_in, client_in, codes_in, connack_in, connect_in, filters_of, flags_in, is_code, keep_alive_in, level_in, numbered_in, payload_in, protocol_name, publish_in, reads, return_code_in, some_codes, suback_in, subscribe_in, topic_in, with_qos}
 use Rattle.packets.specs.Reads.{after_first}
 use Rattle.writer.specs.Laws.{Bytes, ReadsLawful}

@@ -1,5 +1,5 @@
 -- From a packet's first byte and body to the packet.
-use Rattle.std.proofs.Common.{◌≡◌, ℕ, ◌-◌, Bool, cond, not, ◌&&◌, List, ◌++◌, length, take, drop, Result, sym, ap, ◌∙◌, subst}
+use Rattle.std.proofs.Common.{◌≡◌, ℕ, ◌-◌, Bool, cond, not, ◌&&◌, List, ◌++◌, length, take, drop, Result, sym, ◌∙◌, subst}
 use Rattle.packets.specs.Packet.{Content}
 use Rattle.frame.specs.Number.{number_bytes}
 use Rattle.packets.specs.Filters.{Entry}

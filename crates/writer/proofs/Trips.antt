@@ -1,5 +1,5 @@
 -- What is written reads back.
-use Rattle.std.proofs.Common.{◌≡◌, ℕ, zero, suc, ◌+◌, ◌-◌, ◌*◌, ◌/◌, ◌%◌, ◌^◌, ◌<◌, ◌≤◌, Bool, true, false, cond, not, ◌&&◌, ◌||◌, eqb, ltb, leb, ◌≢◌, List, [], ◌∷◌, ◌++◌, length, take, drop, Some, None, Ok, Err, Option, Result, sym, refl, ap, ◌∙◌, subst, append_assoc, add-zero, arith, length-append}
+use Rattle.std.proofs.Common.{◌≡◌, ℕ, zero, suc, ◌+◌, ◌*◌, ◌/◌, ◌%◌, ◌<◌, ◌≤◌, Bool, true, false, cond, not, ◌&&◌, ltb, leb, ◌≢◌, List, [], ◌∷◌, ◌++◌, length, Some, None, Ok, Option, sym, refl, ap, ◌∙◌, append_assoc, add-zero, arith, length-append}
 use Rattle.std.proofs.lemmas.List.{take_at, drop_at, append-nil}
 use Rattle.std.proofs.lemmas.Bool.{and_parts, both_ways, leb-true, ltb-true, le-leb, ne_eqb}
 use Rattle.frame.specs.declared.field.Field.{Field}
@@ -7,9 +7,7 @@ use Rattle.frame.specs.declared.field.Field.TheVariants.{ClientIdentifier, Topic
 use Rattle.frame.specs.declared.first_byte.PacketType.{PacketType}
 use Rattle.frame.specs.declared.first_byte.PacketType.TheVariants.{Connect, ConnAck, Publish, PubAck, PubRec, PubRel, PubComp, Subscribe, SubAck, Unsubscribe, UnsubAck, PingReq, PingResp, Disconnect}
 use Rattle.frame.specs.FirstByte.{type_in}
-use Rattle.frame.specs.Length.{length_bytes}
 use Rattle.frame.specs.Number.{number_bytes}
-use Rattle.frame.specs.Parts.{packet_bytes}
 use Rattle.frame.proofs.Apart.{told-apart}
 use Rattle.topics.specs.declared.qos.Qos.{Qos}
 use Rattle.topics.specs.declared.qos.Qos.TheVariants.{AtMostOnce, AtLeastOnce, ExactlyOnce}
@@ -17,8 +15,7 @@ use Rattle.topics.specs.Qos.{qos_number, qos_of}
 use Rattle.topics.specs.Text.{every, is_text}
 use Rattle.topics.specs.Names.{is_topic_name, is_topic_filter}
 use Rattle.topics.proofs.NameFacts.{filter_parts}
-use Rattle.packets.specs.declared.packet.ReadError.{ReadError}
-use Rattle.packets.specs.Fields.{only_identifier, onward, identified, identifier_in, length_prefixed, text_in, judged, past, announced, cut}
+use Rattle.packets.specs.Fields.{only_identifier, onward, identifier_in, length_prefixed, text_in, past}
 use Rattle.packets.specs.Filters.{Entry, Found, filter_in, filters_in, some_filters, before}
 use Rattle.packets.specs.Packet.{Content, connect, connack, publish, puback, pubrec, pubrel, pubcomp, subscribe, suback, unsubscribe, unsuback, pingreq, pingresp, disconnect}
 use Rattle.packets.specs.Reads.{protocol_name, is_code, body_in, after_parts, reads, connect_in, level_in, flags_in, keep_alive_in, client_in, connack_in, return_code_in, publish_in, topic_in, numbered_in, payload_in, after_topic, subscribe_in, filters_of, suback_in, codes_in, some_codes, ack_in}

@@ -1,4 +1,4 @@
-use Rattle.std.proofs.Common.{◌≡◌, vec_items, sym, ap, ◌∙◌, ⊎_elim}
+use Rattle.std.proofs.Common.{vec_items, sym, ◌∙◌, ⊎_elim}
 use Rattle.lines.proofs.Escapes.{escape_law}
 use Rattle.commands.specs.Answer.{verdict}
 use Rattle.commands.proofs.answer.match_answer.Goals as goal

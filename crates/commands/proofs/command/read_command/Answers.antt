@@ -1,4 +1,4 @@
-use Rattle.std.proofs.Common.{◌≡◌, ap, ◌∙◌}
+use Rattle.std.proofs.Common.{ap, ◌∙◌}
 use Rattle.commands.specs.Command.{named, word, after, command_in}
 use Rattle.commands.proofs.command.read_command.Goals as goal
 

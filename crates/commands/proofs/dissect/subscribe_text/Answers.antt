@@ -1,4 +1,4 @@
-use Rattle.std.proofs.Common.{◌++◌, codes, decimal, ap, ◌∙◌}
+use Rattle.std.proofs.Common.{◌++◌, codes, decimal, ◌∙◌}
 use Rattle.commands.proofs.dissect.subscribe_text.Goals as goal
 
 pub returns : goal.returns

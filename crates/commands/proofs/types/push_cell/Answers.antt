@@ -1,4 +1,4 @@
-use Rattle.std.proofs.Common.{◌≡◌, ◌++◌, string_bytes, decimal, ap, ◌∙◌}
+use Rattle.std.proofs.Common.{◌++◌, string_bytes, decimal, ap, ◌∙◌}
 use Rattle.commands.proofs.types.push_cell.Goals as goal
 
 pub returns : goal.returns

@@ -1,4 +1,4 @@
-use Rattle.std.proofs.Common.{◌≡◌, ℕ, suc, ◌+◌, [], ◌++◌, sym, refl, ap, ◌∙◌, add-one, arith}
+use Rattle.std.proofs.Common.{◌≡◌, ℕ, ◌+◌, [], ◌++◌, sym, refl, ap, ◌∙◌, add-one, arith}
 use Rattle.commands.specs.Types.{cell_text, types_text}
 use Rattle.commands.proofs.types.types_text.Goals as goal
 

@@ -1,4 +1,4 @@
-use Rattle.std.proofs.Common.{◌≡◌, ◌≤◌, length, sym, ap, ◌∙◌, rules}
+use Rattle.std.proofs.Common.{◌≤◌, length, sym, ap, ◌∙◌, rules}
 use Rattle.frame.specs.Number.{number_in}
 use Rattle.frame.proofs.Fronts.{front_two}
 use Rattle.frame.proofs.number.read_number.Goals as goal

@@ -1,4 +1,4 @@
-use Rattle.std.proofs.Common.{◌≡◌, ◌-◌, ◌%◌, ◌<◌, ◌≤◌, length, get_or, take, drop, ap, ◌∙◌, subst, arith, length-drop, length-take, ltb-false, ltb-true}
+use Rattle.std.proofs.Common.{◌-◌, ◌%◌, ◌≤◌, length, get_or, take, drop, ap, ◌∙◌, subst, arith, length-drop, length-take, ltb-false, ltb-true}
 use Rattle.frame.specs.Parts.{Within, after_first}
 use Rattle.frame.proofs.Apart.{from_first, no_first}
 use Rattle.frame.proofs.parts.split_packet.Goals as goal

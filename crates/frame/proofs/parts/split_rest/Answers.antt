@@ -1,4 +1,4 @@
-use Rattle.std.proofs.Common.{◌+◌, ◌≤◌, length, inl, inr, arith, length-drop, length-take}
+use Rattle.std.proofs.Common.{inl, inr, arith, length-drop, length-take}
 use Rattle.frame.proofs.Apart.{no_length, bad-length, good_length}
 use Rattle.frame.proofs.parts.split_rest.Goals as goal
 use Rattle.frame.proofs.parts.split_rest.Goals.{then-number-gt-BODY_BYTES-via-then-number-gt-BODY_BYTES, then-number-gt-BODY_BYTES-via-else-number-gt-BODY_BYTES+then-rest-count}

@@ -1,4 +1,4 @@
-use Rattle.std.proofs.Common.{◌≡◌, vec_items, sym, refl, ap, ◌∙◌, subst, arith}
+use Rattle.std.proofs.Common.{vec_items, sym, refl, ◌∙◌, arith}
 use Rattle.journal.specs.Entry.{written}
 use Rattle.journal.proofs.Places.{length-written}
 use Rattle.journal.proofs.Steps.{clearing_start, clearing_end}

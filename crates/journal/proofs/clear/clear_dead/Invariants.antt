@@ -1,4 +1,4 @@
-use Rattle.std.proofs.Common.{◌≡◌, ◌≤◌, vec_items, vec_len}
+use Rattle.std.proofs.Common.{◌≡◌, vec_items, vec_len}
 use Rattle.journal.specs.Entry.{written}
 use Rattle.journal.specs.Index.{Clearing}
 use Rattle.journal.proofs.clear.clear_dead.Given as goal

@@ -1,4 +1,4 @@
-use Rattle.std.proofs.Common.{◌≡◌, ◌+◌, ◌<◌, length, get_or, set, Some, None, vec_items, sym, refl, ap, ◌∙◌, subst, arith}
+use Rattle.std.proofs.Common.{◌+◌, ◌<◌, length, get_or, set, Some, None, vec_items, sym, refl, ap, ◌∙◌, subst, arith}
 use Rattle.journal.specs.Entry.{written}
 use Rattle.journal.specs.Index.{points_at, Clearing}
 use Rattle.journal.proofs.Places.{length-written}

@@ -1,4 +1,4 @@
-use Rattle.std.proofs.Common.{◌≡◌, ◌++◌, length, drop, sym, ap, ◌∙◌}
+use Rattle.std.proofs.Common.{◌++◌, length, drop, sym, ap, ◌∙◌}
 use Rattle.journal.specs.Changes.{Change}
 use Rattle.journal.proofs.Places.{at_place, read_whole}
 use Rattle.journal.proofs.entry.read_at.Goals as goal

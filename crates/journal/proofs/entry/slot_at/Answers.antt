@@ -1,4 +1,4 @@
-use Rattle.std.proofs.Common.{◌≡◌, sym, ap, ◌∙◌, subst}
+use Rattle.std.proofs.Common.{sym, ap, ◌∙◌, subst}
 use Rattle.journal.specs.Changes.{Inside}
 use Rattle.journal.specs.Entry.{slot_of}
 use Rattle.journal.proofs.Places.{at_place}

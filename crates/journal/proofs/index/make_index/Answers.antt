@@ -1,4 +1,4 @@
-use Rattle.std.proofs.Common.{◌≡◌, get_or, None, ap, ◌∙◌, rules}
+use Rattle.std.proofs.Common.{get_or, None, ap, ◌∙◌, rules}
 use Rattle.journal.proofs.Latest.{none_push}
 use Rattle.journal.proofs.index.make_index.Goals as goal
 

@@ -1,4 +1,4 @@
-use Rattle.std.proofs.Common.{◌≡◌, ℕ, ◌≤◌, true, false, length, get_or, sym, ◌∙◌, arith, ltb-false, ltb-true}
+use Rattle.std.proofs.Common.{◌≡◌, ℕ, true, false, get_or, sym, arith, ltb-false, ltb-true}
 use Rattle.lines.specs.Escape.{plain}
 use Rattle.lines.proofs.Escapes.{plain-front, code_front, no_unit}
 use Rattle.lines.proofs.escape.read_unit.Goals as goal

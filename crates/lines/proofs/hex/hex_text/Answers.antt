@@ -1,5 +1,4 @@
-use Rattle.std.proofs.Common.{◌≡◌, ◌<◌, eqb, ◌++◌, length, get_or, take, sym, ap, ◌∙◌, arith}
-use borrow.Author.Tests.{eqb-false}
+use Rattle.std.proofs.Common.{◌<◌, ◌++◌, length, get_or, sym, ap, ◌∙◌, arith}
 use Rattle.std.proofs.lemmas.List.{take_all}
 use Rattle.std.proofs.lemmas.Bool.Decides.{nat_tests}
 use Rattle.lines.specs.Hex.{each, byte_hex}

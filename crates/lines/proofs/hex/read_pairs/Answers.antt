@@ -1,4 +1,4 @@
-use Rattle.std.proofs.Common.{◌≡◌, ◌-◌, ◌≤◌, length, take, drop, ap, ◌∙◌, arith, rules, ltb-false, ltb-true}
+use Rattle.std.proofs.Common.{◌-◌, ◌≤◌, length, take, drop, ap, ◌∙◌, arith, ltb-false, ltb-true}
 use Rattle.lines.specs.Hex.{pairs_in}
 use Rattle.lines.proofs.Hexes.{prepend, more_read}
 use Rattle.lines.proofs.hex.read_pairs.Goals as goal

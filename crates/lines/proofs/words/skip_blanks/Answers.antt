@@ -1,4 +1,4 @@
-use Rattle.std.proofs.Common.{◌≡◌, length, sym, ◌∙◌, arith, ltb-false, ltb-true}
+use Rattle.std.proofs.Common.{◌∙◌, arith, ltb-false, ltb-true}
 use Rattle.lines.proofs.Wordings.{skip_more, skip_done}
 use Rattle.lines.proofs.words.skip_blanks.Goals as goal
 

@@ -1,4 +1,4 @@
-use Rattle.std.proofs.Common.{ℕ, ◌-◌, List}
+use Rattle.std.proofs.Common.{ℕ, List}
 use Rattle.frame.specs.declared.field.Field.TheVariants.{ClientIdentifier}
 use Rattle.topics.specs.Text.{is_text}
 use Rattle.packets.specs.Fields.{ended, past}

@@ -1,4 +1,4 @@
-use Rattle.std.proofs.Common.{◌-◌, Err, ap, ◌∙◌}
+use Rattle.std.proofs.Common.{Err, ap, ◌∙◌}
 use Rattle.packets.specs.Reads.{connect_in, after_name}
 use Rattle.packets.proofs.Steps.{cut_short, name_bad, name_good}
 use Rattle.packets.proofs.connect.read_connect.Goals as goal

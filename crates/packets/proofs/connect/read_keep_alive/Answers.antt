@@ -1,4 +1,4 @@
-use Rattle.std.proofs.Common.{◌-◌, ◌<◌, ◌≤◌, length, Err, ap, arith, ltb-false, ltb-true}
+use Rattle.std.proofs.Common.{◌<◌, ◌≤◌, length, Err, ap, arith, ltb-false, ltb-true}
 use Rattle.packets.proofs.Fronts.{by_number, no_number}
 use Rattle.packets.specs.Reads.{keep_alive_in, after_keep_alive}
 use Rattle.packets.proofs.connect.read_keep_alive.Goals as goal

@@ -1,4 +1,4 @@
-use Rattle.std.proofs.Common.{◌-◌, ◌<◌, ◌≤◌, length, Err, refl, ap, arith, ltb-false, ltb-true}
+use Rattle.std.proofs.Common.{◌<◌, ◌≤◌, length, Err, refl, ap, arith, ltb-false, ltb-true}
 use Rattle.std.proofs.lemmas.Bool.{eq-eqb, ne_eqb}
 use Rattle.packets.proofs.Fronts.{by_byte, no_byte}
 use Rattle.packets.specs.Reads.{level_in, after_level}

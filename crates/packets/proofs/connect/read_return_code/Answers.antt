@@ -1,4 +1,4 @@
-use Rattle.std.proofs.Common.{◌-◌, ◌<◌, ◌≤◌, length, Err, ap, arith, ltb-false, ltb-true}
+use Rattle.std.proofs.Common.{◌<◌, ◌≤◌, length, Err, ap, arith, ltb-false, ltb-true}
 use Rattle.std.proofs.lemmas.Bool.{le-leb, lt-leb}
 use Rattle.packets.proofs.Fronts.{by_byte, no_byte}
 use Rattle.packets.specs.Reads.{return_code_in, after_present}

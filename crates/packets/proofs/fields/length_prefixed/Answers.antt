@@ -1,4 +1,4 @@
-use Rattle.std.proofs.Common.{◌≡◌, ◌+◌, ◌-◌, ◌*◌, ◌<◌, ◌≤◌, length, get_or, refl, arith, length-drop, length-take, ltb-false, ltb-true}
+use Rattle.std.proofs.Common.{◌≡◌, ◌+◌, ◌*◌, ◌<◌, ◌≤◌, length, get_or, refl, arith, length-drop, length-take, ltb-false, ltb-true}
 use Rattle.packets.proofs.Fronts.{rest2, no_number}
 use Rattle.packets.specs.Fields.{length_prefixed, announced}
 use Rattle.packets.proofs.Steps.{prefix_short, prefix_whole}

@@ -1,4 +1,4 @@
-use Rattle.std.proofs.Common.{◌+◌, ◌-◌, Err, ap, ◌∙◌}
+use Rattle.std.proofs.Common.{◌+◌, Err, ap, ◌∙◌}
 use Rattle.std.proofs.lemmas.Result.{err_from_is_err_and}
 use Rattle.packets.proofs.Steps.{only_err, only_ok, ended-none, ended_some}
 use Rattle.packets.proofs.fields.only_identifier.Goals as goal

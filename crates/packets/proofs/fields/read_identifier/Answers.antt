@@ -1,4 +1,4 @@
-use Rattle.std.proofs.Common.{◌≡◌, ◌+◌, ◌-◌, ◌*◌, ◌<◌, ◌≤◌, ◌≢◌, length, get_or, Ok, Err, ap, arith, length-drop, length-take, ltb-false, ltb-true}
+use Rattle.std.proofs.Common.{◌≡◌, ◌+◌, ◌*◌, ◌<◌, ◌≤◌, ◌≢◌, length, get_or, Ok, Err, ap, arith, length-drop, length-take, ltb-false, ltb-true}
 use Rattle.std.proofs.lemmas.Bool.{eq-eqb, ne_eqb}
 use Rattle.packets.proofs.Fronts.{rest2, by_number, no_number}
 use Rattle.packets.specs.Fields.{identifier_in, identified}

@@ -1,4 +1,4 @@
-use Rattle.std.proofs.Common.{◌-◌, ◌<◌, arith}
+use Rattle.std.proofs.Common.{◌<◌, arith}
 use Rattle.packets.proofs.Steps.{filters_none, filters_err, filters_later, filters_more}
 use Rattle.packets.proofs.filters.+count_filters.Goals as goal
 

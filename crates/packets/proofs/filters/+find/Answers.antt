@@ -1,4 +1,4 @@
-use Rattle.std.proofs.Common.{◌-◌, ap, ◌∙◌}
+use Rattle.std.proofs.Common.{ap, ◌∙◌}
 use Rattle.packets.specs.Filters.{nth}
 use Rattle.packets.proofs.Steps.{first_ok, first_err, nth_first, nth_later}
 use Rattle.packets.proofs.filters.+find.Goals as goal

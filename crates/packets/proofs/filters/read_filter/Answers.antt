@@ -1,4 +1,4 @@
-use Rattle.std.proofs.Common.{◌≡◌, ℕ, ◌+◌, ◌-◌, List, length, sym, ap, ◌∙◌, arith}
+use Rattle.std.proofs.Common.{◌≡◌, ℕ, ◌+◌, List, length, sym, ap, ◌∙◌, arith}
 use Rattle.frame.specs.declared.field.Field.TheVariants.{TopicFilter}
 use Rattle.topics.specs.Names.{is_topic_filter}
 use Rattle.std.proofs.lemmas.Result.{IfOk-weaker}

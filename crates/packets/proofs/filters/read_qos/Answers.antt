@@ -1,4 +1,4 @@
-use Rattle.std.proofs.Common.{◌-◌, ◌≤◌, length, get_or, arith, length-drop, length-take, ltb-false, ltb-true}
+use Rattle.std.proofs.Common.{◌≤◌, length, get_or, arith, length-drop, length-take, ltb-false, ltb-true}
 use Rattle.packets.proofs.Fronts.{rest1, by_byte}
 use Rattle.packets.specs.Filters.{asked_in}
 use Rattle.packets.proofs.Steps.{asked_good}

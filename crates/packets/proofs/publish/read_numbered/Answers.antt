@@ -1,4 +1,4 @@
-use Rattle.std.proofs.Common.{ℕ, ◌+◌, ◌-◌, List, Some, ap, ◌∙◌}
+use Rattle.std.proofs.Common.{ℕ, ◌+◌, List, Some, ap, ◌∙◌}
 use Rattle.packets.specs.Fields.{onward}
 use Rattle.packets.specs.Reads.{numbered_in, payload_in}
 use Rattle.packets.proofs.publish.read_numbered.Goals as goal

@@ -1,4 +1,4 @@
-use Rattle.std.proofs.Common.{◌-◌, leb, Err, ap, ◌∙◌}
+use Rattle.std.proofs.Common.{leb, Err, ap, ◌∙◌}
 use Rattle.packets.specs.Reads.{publish_in, with_qos}
 use Rattle.packets.proofs.publish.read_publish.Goals as goal
 

@@ -1,4 +1,4 @@
-use Rattle.std.proofs.Common.{ℕ, ◌-◌, List}
+use Rattle.std.proofs.Common.{ℕ, List}
 use Rattle.frame.specs.declared.field.Field.TheVariants.{TopicName}
 use Rattle.topics.specs.Names.{is_topic_name}
 use Rattle.packets.specs.Fields.{past}

@@ -1,4 +1,4 @@
-use Rattle.std.proofs.Common.{◌-◌, Err, refl, ap}
+use Rattle.std.proofs.Common.{Err, refl, ap}
 use Rattle.std.proofs.lemmas.Bool.{le-leb, lt-leb}
 use Rattle.packets.specs.Reads.{payload_in}
 use Rattle.packets.proofs.publish.with_payload.Goals as goal

@@ -1,4 +1,4 @@
-use Rattle.std.proofs.Common.{◌-◌, ap, ◌∙◌}
+use Rattle.std.proofs.Common.{ap, ◌∙◌}
 use Rattle.packets.specs.Reads.{reads, after_parts}
 use Rattle.packets.proofs.reader.read.Goals as goal
 

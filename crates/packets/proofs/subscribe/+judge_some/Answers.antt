@@ -1,4 +1,4 @@
-use Rattle.std.proofs.Common.{◌-◌, ◌<◌, ◌≤◌, length, Err, sym, ap, ◌∙◌, arith, ltb-false, ltb-true}
+use Rattle.std.proofs.Common.{◌<◌, ◌≤◌, length, Err, sym, ap, ◌∙◌, arith, ltb-false, ltb-true}
 use Rattle.packets.proofs.Steps.{codes_none, codes_bad, codes_more}
 use Rattle.packets.proofs.subscribe.+judge_some.Goals as goal
 

@@ -1,4 +1,3 @@
-use Rattle.std.proofs.Common.{◌-◌}
 use Rattle.std.proofs.lemmas.Result.{err_from_is_err_and}
 use Rattle.packets.proofs.Steps.{suback_err, suback_ok}
 use Rattle.packets.proofs.subscribe.read_suback.Goals as goal

@@ -1,4 +1,4 @@
-use Rattle.std.proofs.Common.{◌-◌, Ok, ap, ◌∙◌}
+use Rattle.std.proofs.Common.{Ok, ap, ◌∙◌}
 use Rattle.std.proofs.lemmas.Result.{err_from_is_err_and}
 use Rattle.packets.proofs.Steps.{sub_err, sub_ok}
 use Rattle.packets.proofs.subscribe.read_subscribe.Goals as goal

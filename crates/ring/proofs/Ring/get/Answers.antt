@@ -1,4 +1,4 @@
-use Rattle.std.proofs.Common.{◌≡◌, ◌<◌, length, get_or, sym, ap, ◌∙◌, arith}
+use Rattle.std.proofs.Common.{◌<◌, length, get_or, sym, ap, ◌∙◌, arith}
 use Rattle.ring.specs.Ring.{waiting}
 use Rattle.ring.proofs.Waiting.{waiting_fits, get_or-waiting}
 use Rattle.ring.proofs.Ring.get.Goals as goal

@@ -1,4 +1,4 @@
-use Rattle.std.proofs.Common.{◌≡◌, ◌<◌, min, length, set, refl, ap, ◌∙◌, arith}
+use Rattle.std.proofs.Common.{◌≡◌, length, set, refl, ap, ◌∙◌, arith}
 use Rattle.ring.specs.Ring.{waiting, place, grown}
 use Rattle.ring.proofs.Waiting.{waiting-length, waiting_push}
 use Rattle.ring.proofs.Ring.push.Goals as goal

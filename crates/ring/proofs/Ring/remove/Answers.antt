@@ -1,4 +1,4 @@
-use Rattle.std.proofs.Common.{◌≡◌, ℕ, ◌+◌, ◌-◌, ◌%◌, ◌<◌, min, Bool, true, false, not, List, length, sym, ap, ◌∙◌, subst, arith}
+use Rattle.std.proofs.Common.{◌≡◌, ℕ, ◌-◌, ◌%◌, ◌<◌, min, Bool, true, false, not, length, ap, ◌∙◌, subst, arith}
 use Rattle.ring.specs.Ring.{round}
 use Rattle.ring.proofs.Sift.{Sifted, stays_from, goes_from, sifted_none, turn_stays, turn_goes, gone, removed}
 use Rattle.ring.proofs.Ring.remove.Goals as goal

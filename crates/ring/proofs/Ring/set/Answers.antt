@@ -1,4 +1,4 @@
-use Rattle.std.proofs.Common.{◌≡◌, ◌<◌, length, set, refl, ap, ◌∙◌, arith}
+use Rattle.std.proofs.Common.{◌<◌, length, set, refl, ap, ◌∙◌, arith}
 use Rattle.ring.specs.Ring.{waiting}
 use Rattle.ring.proofs.Waiting.{waiting-length, waiting-set}
 use Rattle.ring.proofs.Ring.set.Goals as goal

@@ -1,4 +1,4 @@
-use Rattle.std.proofs.Common.{sym, refl, ◌∙◌, arith}
+use Rattle.std.proofs.Common.{sym, refl, arith}
 use Rattle.std.proofs.lemmas.Bool.{leb-true, leb-false}
 use Rattle.rows.proofs.Overs.{sofar_none, sofar_room, sofar_more, sofar_all}
 use Rattle.rows.proofs.write.write_all.Goals as goal

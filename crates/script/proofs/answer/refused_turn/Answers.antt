@@ -1,4 +1,4 @@
-use Rattle.std.proofs.Common.{◌≡◌, Some, sym, refl, subst}
+use Rattle.std.proofs.Common.{Some, sym, refl, subst}
 use Rattle.script.specs.Answer.{WindowRefused}
 use Rattle.script.proofs.answer.refused_turn.Goals as goal
 

@@ -1,4 +1,4 @@
-use Rattle.std.proofs.Common.{◌≡◌, ℕ, List, IfOk, Ok, Err, Result, refl}
+use Rattle.std.proofs.Common.{ℕ, List, IfOk, Ok, Err, Result, refl}
 use Rattle.std.specs.declared.alloc.AllocError.{AllocError}
 use Rattle.pile.specs.declared.Pile.{Pile}
 use Rattle.pile.specs.declared.ops.Unstacked.{Unstacked}

@@ -1,4 +1,4 @@
-use Rattle.std.proofs.Common.{◌≡◌, ◌^◌, ◌<◌, length, refl, ◌∙◌, arith, length-append}
+use Rattle.std.proofs.Common.{◌^◌, ◌<◌, length, refl, ◌∙◌, arith, length-append}
 use Rattle.frame.specs.Parts.{packet_bytes}
 use Rattle.writer.specs.Out.{joined}
 use Rattle.writer.proofs.Counts.{needed, roomy, counted_short, unlawful, lawful_now, whole}

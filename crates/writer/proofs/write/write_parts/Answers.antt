@@ -1,6 +1,5 @@
-use Rattle.std.proofs.Common.{◌≡◌, ◌++◌, length, sym, refl, ap, ◌∙◌, subst, append_assoc}
+use Rattle.std.proofs.Common.{◌≡◌, ◌++◌, sym, ap, ◌∙◌, subst, append_assoc}
 use Rattle.packets.specs.Bytes.{text_bytes}
-use Rattle.frame.specs.Number.{number_bytes}
 use Rattle.writer.specs.Out.{Sent}
 use Rattle.writer.proofs.write.write_parts.Goals as goal
 

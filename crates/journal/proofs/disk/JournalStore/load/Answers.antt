@@ -1,4 +1,4 @@
-use Rattle.std.proofs.Common.{◌≡◌, ◌++◌, length, drop, Ok, sym, ap, ◌∙◌, arith}
+use Rattle.std.proofs.Common.{◌++◌, length, drop, Ok, ap, ◌∙◌, arith}
 use Rattle.store.specs.Making.{made_limit}
 use Rattle.journal.specs.Changes.{replay}
 use Rattle.journal.specs.Disk.{changes, journal_disk}

@@ -1,4 +1,4 @@
-use Rattle.std.proofs.Common.{◌≡◌, ◌+◌, ◌<◌, cond, eqb, length, sym, refl, ap, ◌∙◌, arith}
+use Rattle.std.proofs.Common.{◌≡◌, ◌+◌, cond, eqb, length, sym, refl, ap, ◌∙◌, arith}
 use Rattle.store.specs.Disk.{absent, with_row}
 use Rattle.store.specs.Making.{made_limit}
 use Rattle.journal.specs.Changes.{change_to, replay, live, appended}

@@ -1,5 +1,5 @@
-use Rattle.std.proofs.Common.{◌≡◌, vec_items, sym, ap, ◌∙◌, subst, arith}
-use Rattle.journal.specs.Entry.{change_of, kept}
+use Rattle.std.proofs.Common.{◌∙◌, arith}
+use Rattle.journal.specs.Entry.{change_of}
 use Rattle.journal.proofs.Logs.{appended-kept, appended_knows}
 use Rattle.journal.proofs.log.Log.append.Goals as goal
 

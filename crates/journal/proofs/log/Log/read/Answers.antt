@@ -1,4 +1,4 @@
-use Rattle.std.proofs.Common.{◌≡◌, ℕ, List, ◌++◌, length, drop, Some, None, sym, ap, ◌∙◌}
+use Rattle.std.proofs.Common.{◌++◌, length, drop, Some, None, sym, ap, ◌∙◌}
 use Rattle.journal.proofs.Logs.{found_tells, found_row}
 use Rattle.journal.proofs.log.Log.read.Goals as goal
 

@@ -1,4 +1,4 @@
-use Rattle.std.proofs.Common.{cond, Some, None, Option, sym, ap, ◌∙◌}
+use Rattle.std.proofs.Common.{cond, None, Option, sym, ap, ◌∙◌}
 use Rattle.sessions.specs.Session.{Session, decode, from_client, after_client}
 use Rattle.sessions.proofs.Steps.{rows_only}
 use Rattle.sessions.proofs.view.SessionRow.read.Goals as goal

@@ -1,4 +1,4 @@
-use Rattle.std.proofs.Common.{sym, ◌∙◌, arith, rules}
+use Rattle.std.proofs.Common.{◌∙◌, arith}
 use Rattle.sessions.proofs.Steps.{stands-none, stands_here, stands_later}
 use Rattle.sessions.proofs.view.ops.+is_filter.Goals as goal
 

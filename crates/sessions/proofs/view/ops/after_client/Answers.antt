@@ -1,6 +1,6 @@
 use Rattle.std.proofs.Common.{sym, arith, ltb-false, ltb-true}
 use Rattle.std.proofs.lemmas.Bool.{and_from, le-leb}
-use Rattle.sessions.proofs.Steps.{after_none, after_many, after-bad, after_good}
+use Rattle.sessions.proofs.Steps.{after_many, after-bad, after_good}
 use Rattle.sessions.proofs.view.ops.after_client.Goals as goal
 
 pub returns-then-count-gt-MAX_FILTERS : goal.returns-then-count-gt-MAX_FILTERS

@@ -1,5 +1,5 @@
-use Rattle.std.proofs.Common.{◌-◌, length, get_or, take, drop, ap, ◌∙◌, arith, ltb-false, ltb-true}
-use Rattle.rows.specs.Text.{text_in, texts}
+use Rattle.std.proofs.Common.{get_or, ap, ◌∙◌, arith, ltb-false, ltb-true}
+use Rattle.rows.specs.Text.{texts}
 use Rattle.topics.specs.Qos.{qos_of}
 use Rattle.sessions.specs.Session.{qualified}
 use Rattle.sessions.proofs.Steps.{filter_none, filter_one}
