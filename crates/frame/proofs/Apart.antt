@@ -43,9 +43,9 @@ unfolding parts_in
 no_first [] h = refl
 no_first (b ∷ bs) h = absurd (omega arith)
 
-pub told-apart : ToldApart
+pub told_apart : ToldApart
 unfolding parts_in packet_bytes
-told-apart first t body et h =
+told_apart first t body et h =
     let n = length body in
     let rest = length_bytes n ++ body in
     let k = length (length_bytes n) in
@@ -95,4 +95,4 @@ unfolding parts_in There
 is_there first rest p e = there_type first (type_in first) rest p refl e
 
 pub parts_law : PartsLaw
-parts_law = record { told-apart = told-apart; is_there = is_there }
+parts_law = record { told_apart = told_apart; is_there = is_there }

@@ -70,5 +70,5 @@ IsThere =
     × (length_in rest ≡ Some (length p.body, p.place - 1)) × (1 < p.place)
 
 pub record PartsLaw : Type 0 where
-  pub told-apart : ToldApart
+  pub told_apart : ToldApart
   pub is_there : IsThere

@@ -23,8 +23,8 @@ each_entry : (P : Change → Type 0) → ((e : Entry) → P (change e)) → (es 
 each_entry P h [] = tt
 each_entry P h (e ∷ es) = (h e, each_entry P h es)
 
-each-change : (P : Change → Type 0) → ((e : Entry) → P (change e)) → (j : Journal) → All P (changes j)
-each-change P h j =
+each_change : (P : Change → Type 0) → ((e : Entry) → P (change e)) → (j : Journal) → All P (changes j)
+each_change P h j =
     All-take P j.log.taken (map change (vec_items j.log.entries)) (each_entry P h (vec_items j.log.entries))
 
 short_rows : (cs : List Change) (rows : Kind → ℕ → List ℕ) → All Short cs → ((k : Kind) (n : ℕ) → length (rows k n) ≤ 560) → (k : Kind) (n : ℕ) → length (fold changed rows cs k n) ≤ 560
@@ -45,10 +45,10 @@ rows_inside (c ∷ cs) rows h e =
     rows_inside cs (changed rows c) h.1 (λ k n l. rw (apart k n c.kind c.number h.0 l) (e k n l))
 
 pub all_inside : (j : Journal) → All Inside (changes j)
-all_inside = each-change Inside (λ e. e.key.inside)
+all_inside = each_change Inside (λ e. e.key.inside)
 
 pub journal_sound : (j : Journal) → Sound (journal_disk j)
 journal_sound j = record {
-  short = short_rows (changes j) (λ k n. []) (each-change Short (λ e. held_short e.row) j) (λ k n. omega arith);
+  short = short_rows (changes j) (λ k n. []) (each_change Short (λ e. held_short e.row) j) (λ k n. omega arith);
   inside = rows_inside (changes j) (λ k n. []) (all_inside j) (λ k n l. refl);
 }

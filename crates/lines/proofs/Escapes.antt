@@ -247,17 +247,17 @@ escape_law = record {
 }
 
 -- a text other than the two words is read byte by byte
-module _ (text : List ℕ) (not_None : 0 < length text) (not-dash : text ≡ 45 ∷ [] → ⊥) (not_code : text ≡ 92 ∷ 120 ∷ 50 ∷ 100 ∷ [] → ⊥) where
+module _ (text : List ℕ) (not_none : 0 < length text) (not_dash : text ≡ 45 ∷ [] → ⊥) (not_code : text ≡ 92 ∷ 120 ∷ 50 ∷ 100 ∷ [] → ⊥) where
   read_by : (bs : List ℕ) → each escaped_byte bs ≡ text → Way bs → escaped bs ≡ text
   read_by bs e (none p) = let z = ap length (sym e ∙ ap (each escaped_byte) p) in absurd (omega arith)
-  read_by bs e (lone p) = absurd (not-dash (sym e ∙ ap (each escaped_byte) p ∙ ap (λ l. l ++ []) (plain_is 45 refl)))
+  read_by bs e (lone p) = absurd (not_dash (sym e ∙ ap (each escaped_byte) p ∙ ap (λ l. l ++ []) (plain_is 45 refl)))
   read_by bs e (spelled w n d) = w ∙ e
 
   pub read-each : (bs : List ℕ) → each escaped_byte bs ≡ text → escaped bs ≡ text
   read-each bs e = read_by bs e (way bs)
 
   none_by : (bs : List ℕ) → (each escaped_byte bs ≡ text → ⊥) → escaped bs ≡ text → Way bs → ⊥
-  none_by bs f e (none p) = not-dash (sym e ∙ ap escaped p)
+  none_by bs f e (none p) = not_dash (sym e ∙ ap escaped p)
   none_by bs f e (lone p) = not_code (sym e ∙ ap escaped p)
   none_by bs f e (spelled w n d) = f (sym w ∙ e)
 

@@ -8,7 +8,7 @@ use Rattle.frame.specs.declared.first_byte.PacketType.{PacketType}
 use Rattle.frame.specs.declared.first_byte.PacketType.TheVariants.{Connect, ConnAck, Publish, PubAck, PubRec, PubRel, PubComp, Subscribe, SubAck, Unsubscribe, UnsubAck, PingReq, PingResp, Disconnect}
 use Rattle.frame.specs.FirstByte.{type_in}
 use Rattle.frame.specs.Number.{number_bytes}
-use Rattle.frame.proofs.Apart.{told-apart}
+use Rattle.frame.proofs.Apart.{told_apart}
 use Rattle.topics.specs.declared.qos.Qos.{Qos}
 use Rattle.topics.specs.declared.qos.Qos.TheVariants.{AtMostOnce, AtLeastOnce, ExactlyOnce}
 use Rattle.topics.specs.Qos.{qos_number, qos_of}
@@ -30,7 +30,7 @@ framed : (c : Content) (t : PacketType) → type_in (first_byte c) ≡ Some t �
 unfolding reads bytes_of lawful
 framed c t et law =
     let short = leb-true (length (body_of c)) 540 (and_parts (lawful_fields c) (leb (length (body_of c)) 540) law).1 in
-    ap after_parts (told-apart (first_byte c) t (body_of c) et short)
+    ap after_parts (told_apart (first_byte c) t (body_of c) et short)
 
 fields : (c : Content) → lawful c ≡ true → lawful_fields c ≡ true
 unfolding lawful
