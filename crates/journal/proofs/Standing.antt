@@ -1,6 +1,6 @@
 -- How many rows stand, and that as many changes are live.
 use Rattle.std.proofs.Common.{◌≡◌, ℕ, zero, suc, ◌+◌, ◌*◌, ◌<◌, ◌≤◌, cond, eqb, ltb, List, [], ◌∷◌, ◌++◌, length, sym, refl, ap, inl, inr, arith}
-use Rattle.std.specs.List.{AllByRecursion as All}
+use Rattle.std.specs.List.{AllByRecursion}
 use Rattle.std.proofs.lemmas.List.{length_push}
 use Rattle.std.proofs.lemmas.Bool.{cases_eq, cond_both, ltb-true, le-ltb, cond-true, cond-false, ne_eqb, eq-eqb}
 use Rattle.store.specs.declared.kind.Kind.{Kind}
@@ -49,14 +49,14 @@ standing_row rows Message n row l =
     let w : weight (with_row rows Message n row Message n) ≡ weight row = ap weight (row_same (rows Message) n row) in
     omega arith
 
-all-front : (P : Change → Type 0) (cs : List Change) (c : Change) → All P (cs ++ c ∷ []) → All P cs × P c
+all-front : (P : Change → Type 0) (cs : List Change) (c : Change) → AllByRecursion P (cs ++ c ∷ []) → AllByRecursion P cs × P c
 all-front P [] c h = (tt, h.0)
 all-front P (x ∷ cs) c h = let t = all-front P cs c h.1 in ((h.0, t.0), t.1)
 
 -- as many changes are live as rows stand
-pub live-standing : (cs : List Change) → All Inside cs → length (live cs) ≡ standing (replay cs)
+pub live-standing : (cs : List Change) → AllByRecursion Inside cs → length (live cs) ≡ standing (replay cs)
 live-standing =
-    by_push (λ cs. All Inside cs → length (live cs) ≡ standing (replay cs))
+    by_push (λ cs. AllByRecursion Inside cs → length (live cs) ≡ standing (replay cs))
     (λ _. let a = none_below 128 in let b = none_below 1024 in omega arith)
     (λ cs c ih h.
     let t = all-front Inside cs c h in

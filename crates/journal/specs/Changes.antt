@@ -1,6 +1,6 @@
 -- Changes of rows in the order in which they were made, and what they come to.
 use Rattle.std.specs.Prelude.{◌≡◌, ℕ, zero, suc, ◌+◌, ◌*◌, ◌<◌, ◌≤◌, Bool, false, cond, not, ◌&&◌, ◌||◌, List, [], ◌∷◌, ◌++◌, length, fold, ◌==◌, nat_lt}
-use Rattle.std.specs.List.{AllByRecursion as All}
+use Rattle.std.specs.List.{AllByRecursion}
 use Rattle.store.specs.declared.kind.Kind.{Kind}
 use Rattle.store.specs.declared.kind.Kind.TheVariants.{Session, Message}
 use Rattle.store.specs.Kind.{same_kind}
@@ -68,7 +68,7 @@ Inside c = c.number < made_limit c.kind
 pub record ClearingKeeps (cs : List Change) : Type 0 where
   pub rows : (k : Kind) (n : ℕ) → replay (live cs) k n ≡ replay cs k n
   pub again : live (live cs) ≡ live cs
-  pub count : All Inside cs → length (live cs) ≡ standing (replay cs)
+  pub count : AllByRecursion Inside cs → length (live cs) ≡ standing (replay cs)
 
 abbrev pub ClearingLaw : Type 0
 ClearingLaw = (cs : List Change) → ClearingKeeps cs

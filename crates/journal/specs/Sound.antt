@@ -1,7 +1,7 @@
 -- The proof that a journal shows a sound disk; the store's contract cites it, and a reader may skip it.
 use Rattle.std.specs.Prelude.{◌≡◌, ℕ, ◌<◌, ◌≤◌, true, false, cond, ◌&&◌, List, [], ◌∷◌, map, length, vec_items, fold, ◌==◌, refl}
 use Rattle.std.proofs.Common.{arith}
-use Rattle.std.specs.List.{AllByRecursion as All}
+use Rattle.std.specs.List.{AllByRecursion}
 use Rattle.std.proofs.ByRecursion.{All-take}
 use Rattle.std.proofs.lemmas.Bool.{ne_eqb}
 use Rattle.store.proofs.Memory.{held_short}
@@ -19,15 +19,15 @@ use Rattle.journal.specs.Disk.{changes, journal_disk}
 abbrev Short : Change → Type 0
 Short c = length c.row ≤ 560
 
-each_entry : (P : Change → Type 0) → ((e : Entry) → P (change e)) → (es : List Entry) → All P (map change es)
+each_entry : (P : Change → Type 0) → ((e : Entry) → P (change e)) → (es : List Entry) → AllByRecursion P (map change es)
 each_entry P h [] = tt
 each_entry P h (e ∷ es) = (h e, each_entry P h es)
 
-each_change : (P : Change → Type 0) → ((e : Entry) → P (change e)) → (j : Journal) → All P (changes j)
+each_change : (P : Change → Type 0) → ((e : Entry) → P (change e)) → (j : Journal) → AllByRecursion P (changes j)
 each_change P h j =
     All-take P j.log.taken (map change (vec_items j.log.entries)) (each_entry P h (vec_items j.log.entries))
 
-short_rows : (cs : List Change) (rows : Kind → ℕ → List ℕ) → All Short cs → ((k : Kind) (n : ℕ) → length (rows k n) ≤ 560) → (k : Kind) (n : ℕ) → length (fold changed rows cs k n) ≤ 560
+short_rows : (cs : List Change) (rows : Kind → ℕ → List ℕ) → AllByRecursion Short cs → ((k : Kind) (n : ℕ) → length (rows k n) ≤ 560) → (k : Kind) (n : ℕ) → length (fold changed rows cs k n) ≤ 560
 short_rows [] rows h l = l
 short_rows (c ∷ cs) rows h l =
     short_rows cs (changed rows c) h.1
@@ -39,12 +39,12 @@ apart Session n Message m h l = refl
 apart Message n Session m h l = refl
 apart Message n Message m h l = ne_eqb n m (λ e. omega arith)
 
-rows_inside : (cs : List Change) (rows : Kind → ℕ → List ℕ) → All Inside cs → ((k : Kind) (n : ℕ) → made_limit k ≤ n → rows k n ≡ []) → (k : Kind) (n : ℕ) → made_limit k ≤ n → fold changed rows cs k n ≡ []
+rows_inside : (cs : List Change) (rows : Kind → ℕ → List ℕ) → AllByRecursion Inside cs → ((k : Kind) (n : ℕ) → made_limit k ≤ n → rows k n ≡ []) → (k : Kind) (n : ℕ) → made_limit k ≤ n → fold changed rows cs k n ≡ []
 rows_inside [] rows h e = e
 rows_inside (c ∷ cs) rows h e =
     rows_inside cs (changed rows c) h.1 (λ k n l. rw (apart k n c.kind c.number h.0 l) (e k n l))
 
-pub all_inside : (j : Journal) → All Inside (changes j)
+pub all_inside : (j : Journal) → AllByRecursion Inside (changes j)
 all_inside = each_change Inside (λ e. e.key.inside)
 
 pub journal_sound : (j : Journal) → Sound (journal_disk j)

@@ -4,7 +4,7 @@ use borrow.Author.Tests.{eqb-false}
 use Rattle.std.proofs.ByRecursion.{All-append}
 use Rattle.std.proofs.lemmas.Bool.Decides.{nat_tests}
 use Rattle.std.proofs.lemmas.List.{append-nil, take_all}
-use Rattle.std.specs.List.{AllByRecursion as All}
+use Rattle.std.specs.List.{AllByRecursion}
 use Rattle.lines.specs.Hex.{digit, digit_value, byte_hex, each}
 use Rattle.lines.proofs.Hexes.{each_append, front_one, digit_back}
 use Rattle.lines.specs.Escape.{plain, escaped_byte, escaped, Bytes, EscapeLaw}
@@ -216,13 +216,13 @@ digit_prints : (n : ℕ) → n < 16 → Printable (digit n)
 unfolding Printable
 digit_prints n h = (grind (arith, nat_tests), grind (arith, nat_tests))
 
-unit_prints : (b : ℕ) (v : Bool) → b < 256 → plain b ≡ v → All Printable (cond v (b ∷ []) (92 ∷ 120 ∷ byte_hex b))
+unit_prints : (b : ℕ) (v : Bool) → b < 256 → plain b ≡ v → AllByRecursion Printable (cond v (b ∷ []) (92 ∷ 120 ∷ byte_hex b))
 unfolding Printable
 unit_prints b true h e = ((grind (arith, nat_tests), grind (arith, nat_tests)), tt)
 unit_prints b false h e =
     ((lit≤ tt, lit≤ tt), ((lit≤ tt, lit≤ tt), (digit_prints (b / 16) (omega arith), (digit_prints (b % 16) (omega arith), tt))))
 
-each_prints : (bs : List ℕ) → Bytes bs → All Printable (each escaped_byte bs)
+each_prints : (bs : List ℕ) → Bytes bs → AllByRecursion Printable (each escaped_byte bs)
 unfolding escaped_byte
 each_prints [] h = tt
 each_prints (b ∷ bs) h = All-append Printable (escaped_byte b) (each escaped_byte bs) (unit_prints b (plain b) h.0 refl) (each_prints bs h.1)
@@ -231,13 +231,13 @@ some_spelled : (bs : List ℕ) → (bs ≡ [] → ⊥) → 0 < length (each esca
 some_spelled [] n = absurd (n refl)
 some_spelled (b ∷ bs) n = let l = length-append (escaped_byte b) (each escaped_byte bs) in omega (arith, unit_some b)
 
-prints_by : (bs : List ℕ) → Bytes bs → Way bs → (0 < length (escaped bs)) × All Printable (escaped bs)
+prints_by : (bs : List ℕ) → Bytes bs → Way bs → (0 < length (escaped bs)) × AllByRecursion Printable (escaped bs)
 unfolding Printable
-prints_by bs h (none p) = subst (λ l. (0 < length (escaped l)) × All Printable (escaped l)) (sym p) (lit< tt, ((lit≤ tt, lit≤ tt), tt))
+prints_by bs h (none p) = subst (λ l. (0 < length (escaped l)) × AllByRecursion Printable (escaped l)) (sym p) (lit< tt, ((lit≤ tt, lit≤ tt), tt))
 prints_by bs h (lone p) =
-    subst (λ l. (0 < length (escaped l)) × All Printable (escaped l)) (sym p)
+    subst (λ l. (0 < length (escaped l)) × AllByRecursion Printable (escaped l)) (sym p)
     (lit< tt, ((lit≤ tt, lit≤ tt), ((lit≤ tt, lit≤ tt), ((lit≤ tt, lit≤ tt), ((lit≤ tt, lit≤ tt), tt)))))
-prints_by bs h (spelled w n d) = subst (λ l. (0 < length l) × All Printable l) (sym w) (some_spelled bs n, each_prints bs h)
+prints_by bs h (spelled w n d) = subst (λ l. (0 < length l) × AllByRecursion Printable l) (sym w) (some_spelled bs n, each_prints bs h)
 
 pub escape_law : EscapeLaw
 unfolding Printable

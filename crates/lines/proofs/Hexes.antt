@@ -2,7 +2,7 @@
 use Rattle.std.proofs.Common.{◌≡◌, ℕ, ◌+◌, ◌-◌, ◌*◌, ◌/◌, ◌%◌, ◌<◌, ◌≤◌, true, false, eqb, List, [], ◌∷◌, ◌++◌, length, get_or, take, drop, Some, None, Option, sym, refl, ap, ◌∙◌, append_assoc, arith}
 use Rattle.std.proofs.lemmas.List.{append-nil, take_more, take_all}
 use Rattle.std.proofs.lemmas.Bool.Decides.{nat_tests}
-use Rattle.std.specs.List.{AllByRecursion as All}
+use Rattle.std.specs.List.{AllByRecursion}
 use Rattle.lines.specs.Hex.{digit, byte_hex, each, hex_text, digit_value, byte_before, pairs_in, hex_in, HexLaw}
 
 -- a list by its first element and the rest, as a slice pattern has them
@@ -86,7 +86,7 @@ hex_some (b ∷ bs) h = refl
 pub digit_back : (n : ℕ) → n < 16 → digit_value (digit n) ≡ Some n
 digit_back n h = grind (arith, nat_tests)
 
-pairs_back : (bs : List ℕ) → All (λ b. b < 256) bs → pairs_in (each byte_hex bs) ≡ Some bs
+pairs_back : (bs : List ℕ) → AllByRecursion (λ b. b < 256) bs → pairs_in (each byte_hex bs) ≡ Some bs
 pairs_back [] a = refl
 pairs_back (b ∷ bs) a =
     let high = digit_back (b / 16) (omega arith) in

@@ -2,7 +2,7 @@
 use Rattle.std.specs.Prelude.{◌≡◌, ℕ, ◌<◌, ◌≤◌, Bool, false, cond, not, ◌&&◌, List, [], ◌∷◌, ◌++◌, length, Some, None, Ok, Err, vec_items, codes, Option, Result, Vec, ◌==◌, ◌≢◌, nat_le}
 use Rattle.std.specs.Borrow.{Bor}
 use Rattle.std.specs.declared.alloc.Global.{Global}
-use Rattle.std.specs.List.{AllByRecursion as All}
+use Rattle.std.specs.List.{AllByRecursion}
 use Rattle.lines.specs.declared.error.LineError.{LineError}
 use Rattle.lines.specs.declared.error.LineError.TheVariants.{Malformed, Memory}
 use Rattle.lines.specs.Hex.{byte_hex, each}
@@ -23,7 +23,7 @@ escaped (b ∷ c ∷ bs) = each escaped_byte (b ∷ c ∷ bs)
 
 -- all are bytes
 abbrev pub Bytes : List ℕ → Type 0
-Bytes bs = All (λ b. b < 256) bs
+Bytes bs = AllByRecursion (λ b. b < 256) bs
 
 -- a writer's text is read as what it was written of, and a text that is written of no bytes is malformed
 abbrev pub Inverse : (List ℕ → List ℕ) → List ℕ → Result (Vec ℕ Global) LineError → Type 0
@@ -53,4 +53,4 @@ pub record EscapeLaw : Type 0 where
   -- two runs of bytes with one text are one
   pub one_to_one : (bs cs : List ℕ) → Bytes bs → Bytes cs → escaped bs ≡ escaped cs → bs ≡ cs
   -- the text is not empty, and each of its characters is printable and no blank
-  pub printable : (bs : List ℕ) → Bytes bs → (0 < length (escaped bs)) × All (λ c. (33 ≤ c) × (c ≤ 126)) (escaped bs)
+  pub printable : (bs : List ℕ) → Bytes bs → (0 < length (escaped bs)) × AllByRecursion (λ c. (33 ≤ c) × (c ≤ 126)) (escaped bs)

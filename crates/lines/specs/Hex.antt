@@ -1,7 +1,7 @@
 -- Bytes in hexadecimal.
 use Rattle.std.specs.Prelude.{◌≡◌, ℕ, ◌+◌, ◌-◌, ◌*◌, ◌/◌, ◌%◌, ◌<◌, cond, ◌&&◌, List, [], ◌∷◌, ◌++◌, Some, None, Ok, Err, vec_items, Option, Result, Vec, ◌==◌, nat_le, nat_lt}
 use Rattle.std.specs.declared.alloc.Global.{Global}
-use Rattle.std.specs.List.{AllByRecursion as All}
+use Rattle.std.specs.List.{AllByRecursion}
 use Rattle.lines.specs.declared.error.LineError.{LineError}
 use Rattle.lines.specs.declared.error.LineError.TheVariants.{Malformed, Memory}
 
@@ -61,4 +61,4 @@ Read meant (Err Memory) = Unit {0}
 
 -- what is written of some bytes reads back
 abbrev pub HexLaw : Type 0
-HexLaw = (bs : List ℕ) → All (λ b. b < 256) bs → hex_in (hex_text bs) ≡ Some bs
+HexLaw = (bs : List ℕ) → AllByRecursion (λ b. b < 256) bs → hex_in (hex_text bs) ≡ Some bs

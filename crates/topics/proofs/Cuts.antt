@@ -1,6 +1,6 @@
 -- Levels and slashes.
 use Rattle.std.proofs.Common.{◌≡◌, ℕ, Bool, true, false, cond, not, eqb, List, [], ◌∷◌, ◌++◌, sym, refl, ap, ◌∙◌, subst}
-use Rattle.std.specs.List.{AllByRecursion as All}
+use Rattle.std.specs.List.{AllByRecursion}
 use Rattle.std.proofs.lemmas.Bool.{eq-eqb, ne_eqb, eqb-true, and_parts, and_from, not_from_false, not-true, cond-true, cond-false}
 use Rattle.topics.specs.Levels.{LevelsLaw, levels, in_front, with_slashes, unslashed}
 
@@ -26,11 +26,11 @@ at_slash b bs e = cond-true (eqb b 47) _ _ (eq-eqb b 47 e)
 pub at_byte : (b : ℕ) (bs : List ℕ) → (b ≡ 47 → ⊥) → levels (b ∷ bs) ≡ in_front b (levels bs)
 at_byte b bs n = cond-false (eqb b 47) _ _ (ne_eqb b 47 n)
 
-free : (bs : List ℕ) → All (λ l. unslashed l ≡ true) (levels bs)
+free : (bs : List ℕ) → AllByRecursion (λ l. unslashed l ≡ true) (levels bs)
 free [] = (refl, tt)
 free (b ∷ bs) =
     let next = first_level bs in
-    let P : List (List ℕ) → Type 0 = λ ls. All (λ l. unslashed l ≡ true) ls in
+    let P : List (List ℕ) → Type 0 = λ ls. AllByRecursion (λ l. unslashed l ≡ true) ls in
     let tail : P (next.0 ∷ next.1) = subst P next.2 (free bs) in
     let go : (v : Bool) → eqb b 47 ≡ v → P (cond v ([] ∷ levels bs) (in_front b (levels bs))) = λ v.
     elim v as (λ v. eqb b 47 ≡ v → P (cond v ([] ∷ levels bs) (in_front b (levels bs)))) [
@@ -68,7 +68,7 @@ last_level (b ∷ l) e =
     let p = and_parts (not (eqb b 47)) (unslashed l) e in
     cond-false (eqb b 47) _ _ (not-true (eqb b 47) p.0) ∙ ap (in_front b) (last_level l p.1)
 
-only : (l : List ℕ) (ls : List (List ℕ)) → All (λ m. unslashed m ≡ true) (l ∷ ls) → levels (with_slashes (l ∷ ls)) ≡ l ∷ ls
+only : (l : List ℕ) (ls : List (List ℕ)) → AllByRecursion (λ m. unslashed m ≡ true) (l ∷ ls) → levels (with_slashes (l ∷ ls)) ≡ l ∷ ls
 only l [] h = last_level l h.0
 only l (m ∷ ls) h = level_then_slash l (with_slashes (m ∷ ls)) h.0 ∙ ap (λ ms. l ∷ ms) (only m ls h.1)
 

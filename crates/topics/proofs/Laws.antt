@@ -1,7 +1,7 @@
 -- The laws of matching.
 use Rattle.std.proofs.Common.{◌≡◌, ℕ, suc, Bool, true, false, not, ◌&&◌, eqb, ◌⊎◌, List, [], ◌∷◌, ◌++◌, length, drop, Decides, sym, refl, ap, ◌∙◌, subst, inl, inr}
 use Rattle.std.proofs.lemmas.List.{append-nil}
-use Rattle.std.specs.List.{AllZip, AllByRecursion as All}
+use Rattle.std.specs.List.{AllZip, AllByRecursion}
 use Rattle.std.specs.Str.{bytes_eq}
 use Rattle.std.proofs.lemmas.Slice.Eq.{bytes_eq-Decides}
 use Rattle.std.proofs.lemmas.Bool.{and_from, and_parts, or_cases, or_left, or_right, or_parts, both_ways, not-true, eqb-true, eqb-false}
@@ -96,18 +96,18 @@ plain_level (b ∷ []) e =
     (n.1, n.0)
 plain_level (b ∷ c ∷ l) e = (refl, refl)
 
-plain-cut : (b : ℕ) (bs : List ℕ) → plain (b ∷ bs) ≡ true → All (λ l. plain l ≡ true) (levels bs) → (v : Bool) → eqb b 47 ≡ v → All (λ l. plain l ≡ true) (levels (b ∷ bs))
-plain-cut b bs e h true d = subst (All (λ l. plain l ≡ true)) (sym (at_slash b bs (eqb-true b 47 d))) (refl, h)
+plain-cut : (b : ℕ) (bs : List ℕ) → plain (b ∷ bs) ≡ true → AllByRecursion (λ l. plain l ≡ true) (levels bs) → (v : Bool) → eqb b 47 ≡ v → AllByRecursion (λ l. plain l ≡ true) (levels (b ∷ bs))
+plain-cut b bs e h true d = subst (AllByRecursion (λ l. plain l ≡ true)) (sym (at_slash b bs (eqb-true b 47 d))) (refl, h)
 plain-cut b bs e h false d =
     let first = (and_parts (not (wildcard b)) (plain bs) e).0 in
-    subst (All (λ l. plain l ≡ true)) (sym (at_byte b bs (eqb-false b 47 d)))
-    (at_levels (λ ls. All (λ l. plain l ≡ true) ls → All (λ l. plain l ≡ true) (in_front b ls)) bs (λ l ls k. (and_from (not (wildcard b)) (plain l) first k.0, k.1)) h)
+    subst (AllByRecursion (λ l. plain l ≡ true)) (sym (at_byte b bs (eqb-false b 47 d)))
+    (at_levels (λ ls. AllByRecursion (λ l. plain l ≡ true) ls → AllByRecursion (λ l. plain l ≡ true) (in_front b ls)) bs (λ l ls k. (and_from (not (wildcard b)) (plain l) first k.0, k.1)) h)
 
-pub plain-levels : (bs : List ℕ) → plain bs ≡ true → All (λ l. plain l ≡ true) (levels bs)
+pub plain-levels : (bs : List ℕ) → plain bs ≡ true → AllByRecursion (λ l. plain l ≡ true) (levels bs)
 plain-levels [] e = (refl, tt)
 plain-levels (b ∷ bs) e = plain-cut b bs e (plain-levels bs (and_parts (not (wildcard b)) (plain bs) e).1) (eqb b 47) refl
 
-plain-takes : (fs ts : List (List ℕ)) → All (λ l. plain l ≡ true) fs → takes_levels fs ts ≡ true → fs ≡ ts
+plain-takes : (fs ts : List (List ℕ)) → AllByRecursion (λ l. plain l ≡ true) fs → takes_levels fs ts ≡ true → fs ≡ ts
 plain-takes [] [] h e = refl
 plain-takes [] (t ∷ ts) h e = absurd (both_ways false refl e)
 plain-takes (f ∷ fs) [] h e = absurd (both_ways (is_hash f) (plain_level f h.0).0 (and_parts (is_hash f) (is_end fs) e).0)

@@ -1,6 +1,6 @@
 -- What a topic name, a topic filter and a client identifier have in common.
 use Rattle.std.proofs.Common.{◌≡◌, ℕ, zero, suc, ◌<◌, ◌≤◌, true, ◌&&◌, ◌||◌, eqb, ltb, leb, List, [], ◌∷◌, length, IsAscii, sym, refl, ap, ◌∙◌, arith}
-use Rattle.std.specs.List.{AllByRecursion as All}
+use Rattle.std.specs.List.{AllByRecursion}
 use Rattle.std.specs.Char.{is_ascii_alphanumeric}
 use Rattle.std.proofs.lemmas.Bool.{and_from, and_parts, or_right, ltb-true, leb-true, ne_eqb, not_from_false}
 use Rattle.std.proofs.lemmas.Str.{chars-IsAscii, IsUtf8-from_ascii}
@@ -64,7 +64,7 @@ client_text bs e =
     let ascii = alnum_ascii bs alnum in
     sym (text_utf8 bs (IsUtf8-from_ascii bs ascii)) ∙ ap (every allowed) (chars-IsAscii bs ascii) ∙ alnum_allowed bs alnum
 
-plain-lawful : (ls : List (List ℕ)) → All (λ l. plain l ≡ true) ls → lawful ls ≡ true
+plain-lawful : (ls : List (List ℕ)) → AllByRecursion (λ l. plain l ≡ true) ls → lawful ls ≡ true
 plain-lawful [] h = refl
 plain-lawful (l ∷ ls) h =
     and_from (is_plus l || (is_hash l && is_end ls) || plain l) (lawful ls) (or_right (is_plus l || (is_hash l && is_end ls)) (plain l) h.0) (plain-lawful ls h.1)

@@ -1,6 +1,6 @@
 -- The levels of a topic name or a topic filter. 47 is '/'.
 use Rattle.std.specs.Prelude.{◌≡◌, ℕ, Bool, true, cond, not, List, [], ◌∷◌, ◌++◌, ◌==◌}
-use Rattle.std.specs.List.{AllByRecursion as All}
+use Rattle.std.specs.List.{AllByRecursion}
 use Rattle.topics.specs.Text.{every}
 
 -- one more byte in front of the first level
@@ -25,6 +25,6 @@ unslashed l = every (λ b. not (b == 47)) l
 
 -- the levels are free of '/' and make the text again, and no other levels, at least one, do
 pub record LevelsLaw : Type 0 where
-  pub free : (bs : List ℕ) → All (λ l. unslashed l ≡ true) (levels bs)
+  pub free : (bs : List ℕ) → AllByRecursion (λ l. unslashed l ≡ true) (levels bs)
   pub rejoined : (bs : List ℕ) → with_slashes (levels bs) ≡ bs
-  pub only : (l : List ℕ) (ls : List (List ℕ)) → All (λ m. unslashed m ≡ true) (l ∷ ls) → levels (with_slashes (l ∷ ls)) ≡ l ∷ ls
+  pub only : (l : List ℕ) (ls : List (List ℕ)) → AllByRecursion (λ m. unslashed m ≡ true) (l ∷ ls) → levels (with_slashes (l ∷ ls)) ≡ l ∷ ls

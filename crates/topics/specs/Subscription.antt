@@ -1,6 +1,6 @@
 -- What subscriptions grant a topic.
 use Rattle.std.specs.Prelude.{◌≡◌, ℕ, ◌≤◌, true, false, cond, List, Some, None, fold, Option}
-use Rattle.std.specs.List.{ContainsAt as Has, AllByRecursion as All}
+use Rattle.std.specs.List.{ContainsAt, AllByRecursion}
 use Rattle.topics.specs.declared.qos.Qos.{Qos}
 use Rattle.topics.specs.declared.subscription.Subscription.{Subscription}
 use Rattle.topics.specs.Matching.{takes}
@@ -30,10 +30,10 @@ granted ss t = fold (λ best s. raised best s.filter s.qos t) None ss
 
 -- the highest quality of service among the subscriptions whose filter takes the topic, or none where no filter does
 abbrev pub Highest : List Subscribed → List ℕ → Option Qos → Type 0
-Highest ss t None = All (λ s. takes s.filter t ≡ false) ss
+Highest ss t None = AllByRecursion (λ s. takes s.filter t ≡ false) ss
 Highest ss t (Some q) =
-    ((s : Subscribed) × Has ss s × (takes s.filter t ≡ true) × (s.qos ≡ q))
-    × All (λ s. takes s.filter t ≡ true → qos_number s.qos ≤ qos_number q) ss
+    ((s : Subscribed) × ContainsAt ss s × (takes s.filter t ≡ true) × (s.qos ≡ q))
+    × AllByRecursion (λ s. takes s.filter t ≡ true → qos_number s.qos ≤ qos_number q) ss
 
 -- subscriptions grant a topic the highest quality of service of those that take it
 abbrev pub GrantedLaw : Type 0

@@ -1,6 +1,6 @@
 -- What holds of writing and reading together.
 use Rattle.std.specs.Prelude.{◌≡◌, ℕ, ◌<◌, true, List, [], ◌∷◌, Ok}
-use Rattle.std.specs.List.{AllByRecursion as All}
+use Rattle.std.specs.List.{AllByRecursion}
 use Rattle.packets.specs.Filters.{Entry}
 use Rattle.packets.specs.Packet.{Content, connect, connack, publish, puback, pubrec, pubrel, pubcomp, subscribe, suback, unsubscribe, unsuback, pingreq, pingresp, disconnect}
 use Rattle.packets.specs.Reads.{reads}
@@ -34,7 +34,7 @@ bare disconnect = disconnect
 
 -- all are bytes
 abbrev pub Bytes : List ℕ → Type 0
-Bytes bs = All (λ b. b < 256) bs
+Bytes bs = AllByRecursion (λ b. b < 256) bs
 
 -- whatever is read of bytes is lawful
 abbrev pub ReadsLawful : Type 0
