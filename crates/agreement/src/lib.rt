@@ -7,7 +7,7 @@ ghost use Rattle.agreement.specs.Calls.{Agrees, answer_of, answers, done, load_l
 use journal::Journal;
 use std::alloc::{AllocError, Global};
 use store::kind::{Kind, Refusal};
-use store::making::MakeError;
+use store::making::{Made, MakeError};
 use store::{ROW_BYTES, Store};
 use table::Table;
 

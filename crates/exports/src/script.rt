@@ -6,7 +6,7 @@ use crate::operation::Operation;
 use journal::Journal;
 use std::alloc::{AllocError, Global};
 use store::Store;
-use store::making::MakeError;
+use store::making::{Made, MakeError};
 use table::Table;
 
 // Performs the operations in order and answers one number each. Want of memory comes before the first.

@@ -1,7 +1,8 @@
 -- Which first bytes are legal, and the packet type that each announces.
-use Rattle.std.specs.Prelude.{ℕ, ◌/◌, ◌%◌, Bool, cond, ◌&&◌, ◌||◌, List, Some, None, codes, Option, ◌==◌, nat_lt}
+use Rattle.std.specs.Prelude.{◌≡◌, ℕ, ◌/◌, ◌%◌, Bool, cond, ◌&&◌, ◌||◌, List, Some, None, codes, Option, Result, MatchResult, ◌==◌, nat_lt}
 use Rattle.frame.specs.declared.first_byte.PacketType.{PacketType}
 use Rattle.frame.specs.declared.first_byte.PacketType.TheVariants.{Connect, ConnAck, Publish, PubAck, PubRec, PubRel, PubComp, Subscribe, SubAck, Unsubscribe, UnsubAck, PingReq, PingResp, Disconnect}
+use Rattle.frame.specs.declared.first_byte.UnknownType.{UnknownType}
 
 -- the types are numbered 1 to 14
 abbrev pub number_of : PacketType → ℕ
@@ -48,6 +49,10 @@ numbered n =
     (cond (n == 5) (Some PubRec) (cond (n == 6) (Some PubRel) (cond (n == 7) (Some PubComp) (cond (n == 8) (Some Subscribe)
     (cond (n == 9) (Some SubAck) (cond (n == 10) (Some Unsubscribe) (cond (n == 11) (Some UnsubAck) (cond (n == 12) (Some PingReq)
     (cond (n == 13) (Some PingResp) (cond (n == 14) (Some Disconnect) None)))))))))))))
+
+-- the result is the type with this number, or the number itself where none has it
+abbrev pub Decodes : ℕ → Result PacketType UnknownType → Type 0
+Decodes n r = MatchResult r (λ t. numbered n ≡ Some t) (λ e. (numbered n ≡ None) × (e.0 ≡ n))
 
 -- the type t is announced with the flags f, if it allows them
 abbrev pub announced : Option PacketType → ℕ → Option PacketType

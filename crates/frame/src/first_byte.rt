@@ -1,6 +1,6 @@
 // The packet type that a first byte announces.
 ghost use Rattle.std.specs.Prelude.{◌≡◌};
-ghost use Rattle.frame.specs.FirstByte.{type_number, numbered, number_of, type_in, name_of};
+ghost use Rattle.frame.specs.FirstByte.{Decodes, type_number, numbered, number_of, type_in, name_of};
 
 // The fourteen packet types of MQTT 3.1.1.
 #[derive(Clone, Copy, PartialEq, Eq, Debug)]
@@ -19,6 +19,36 @@ pub enum PacketType {
     PingReq,
     PingResp,
     Disconnect,
+}
+
+// A number that no packet type has.
+#[derive(Clone, Copy, PartialEq, Eq, Debug)]
+pub struct UnknownType(pub u8);
+
+impl TryFrom<u8> for PacketType {
+    type Error = UnknownType;
+
+    ghost try_from_gives = { Decodes };
+
+    fn try_from(number: u8) -> Result<PacketType, UnknownType> {
+        match number {
+            1 => Ok(PacketType::Connect),
+            2 => Ok(PacketType::ConnAck),
+            3 => Ok(PacketType::Publish),
+            4 => Ok(PacketType::PubAck),
+            5 => Ok(PacketType::PubRec),
+            6 => Ok(PacketType::PubRel),
+            7 => Ok(PacketType::PubComp),
+            8 => Ok(PacketType::Subscribe),
+            9 => Ok(PacketType::SubAck),
+            10 => Ok(PacketType::Unsubscribe),
+            11 => Ok(PacketType::UnsubAck),
+            12 => Ok(PacketType::PingReq),
+            13 => Ok(PacketType::PingResp),
+            14 => Ok(PacketType::Disconnect),
+            _ => Err(UnknownType(number)),
+        }
+    }
 }
 
 // The number of the packet type by first byte, 0 where the first byte is illegal.

@@ -11,7 +11,7 @@ use crate::key::Key;
 use crate::log::Log;
 use std::alloc::Global;
 use store::kind::{Kind, Refusal};
-use store::making::{MAX_ROWS, MakeError};
+use store::making::{MAX_ROWS, Made, MakeError};
 use store::{ROW_BYTES, Store};
 
 // The rows that are free once a row is put where one was absent or stood, if there is room.
@@ -28,22 +28,6 @@ fn free_after_put(absent: bool, free: u32) -> Option<u32>
 }
 
 impl Journal {
-    // A journal without rows, for so many, with no write left; more than 1,152 are bad.
-    pub fn new(heap: Global, rows: u32) -> Result<Journal, MakeError>
-        ensures answer { Makes journal_disk rows result }
-        ensures changes { IfOk result (λ j. (changes j ≡ []) × (places j ≡ 2 * rows + 1)) }
-    {
-        if rows > MAX_ROWS {
-            return Err(MakeError::Bad);
-        }
-        let log = Log::new(heap, 2 * rows as usize + 1)?;
-        Ok(Journal {
-            log,
-            free: rows,
-            writes: 0,
-        })
-    }
-
     // How many changes it keeps.
     pub fn change_count(&self) -> usize
         ensures answer { result ≡ length (changes self.now) }
@@ -142,5 +126,22 @@ impl Store for Journal {
         ensures places { places self.new ≡ places self.old }
     {
         self.writes = writes;
+    }
+}
+
+impl Made for Journal {
+    fn new(heap: Global, rows: u32) -> Result<Journal, MakeError>
+        ensures answer { Makes journal_disk rows result }
+        ensures changes { IfOk result (λ j. (changes j ≡ []) × (places j ≡ 2 * rows + 1)) }
+    {
+        if rows > MAX_ROWS {
+            return Err(MakeError::Bad);
+        }
+        let log = Log::new(heap, 2 * rows as usize + 1)?;
+        Ok(Journal {
+            log,
+            free: rows,
+            writes: 0,
+        })
     }
 }

@@ -2,7 +2,7 @@
 use journal::Journal;
 use std::test::Fail;
 use store::kind::{Kind, Refusal};
-use store::making::MakeError;
+use store::making::{Made, MakeError};
 use store::{ROW_BYTES, Store};
 
 // One row has places for three changes: the fourth clears the dead ones first, and the row stays.

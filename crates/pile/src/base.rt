@@ -7,7 +7,7 @@ use journal::Journal;
 use std::alloc::Global;
 use store::Store;
 use store::kind::{Kind, Refusal};
-use store::making::MakeError;
+use store::making::{Made, MakeError};
 use table::Table;
 
 // A store in memory.

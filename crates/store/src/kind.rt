@@ -1,11 +1,29 @@
 // The kinds of rows, and what a store answers when it refuses.
 ghost use Rattle.std.specs.Prelude.{◌≡◌};
-ghost use Rattle.store.specs.Kind.{kind_number, kind_of};
+ghost use Rattle.store.specs.Kind.{Decodes, kind_number, kind_of};
 
 #[derive(Clone, Copy, PartialEq, Eq, Debug)]
 pub enum Kind {
-    Session,
-    Message,
+    Session = 0,
+    Message = 1,
+}
+
+// A number that no kind has.
+#[derive(Clone, Copy, PartialEq, Eq, Debug)]
+pub struct UnknownKind(pub u8);
+
+impl TryFrom<u8> for Kind {
+    type Error = UnknownKind;
+
+    ghost try_from_gives = { Decodes };
+
+    fn try_from(number: u8) -> Result<Kind, UnknownKind> {
+        match number {
+            0 => Ok(Kind::Session),
+            1 => Ok(Kind::Message),
+            _ => Err(UnknownKind(number)),
+        }
+    }
 }
 
 #[derive(Clone, Copy, PartialEq, Eq, Debug)]

@@ -2,6 +2,7 @@
 use std::test::Fail;
 use store::change::Change;
 use store::kind::{Kind, Refusal};
+use store::making::Made;
 use store::{ROW_BYTES, Store};
 use table::Table;
 use window::Window;

@@ -1,6 +1,6 @@
 // A table as a store.
 ghost use Rattle.std.specs.Prelude.{◌≡◌, ◌+◌, ◌<◌, ◌≤◌, if◌then◌else◌, MatchOption, nat_eq};
-ghost use Rattle.store.specs.Making.{made_limit, Makes};
+ghost use Rattle.store.specs.Making.{made_limit};
 ghost use Rattle.table.specs.Disk.{place_of, table_disk};
 ghost use Rattle.table.specs.Sound.{table_sound};
 
@@ -8,7 +8,7 @@ use crate::Table;
 use crate::rows::{clear_at, len_at, make, read_at, write_at};
 use std::alloc::Global;
 use store::kind::{Kind, Refusal};
-use store::making::{MAX_ROWS, MakeError, SESSIONS};
+use store::making::{MAX_ROWS, Made, MakeError, SESSIONS};
 use store::{ROW_BYTES, Store};
 
 // The place of a key, none for a bad one.
@@ -34,23 +34,6 @@ fn free_after(len: usize, free: u32) -> Option<u32>
         Some(free - 1)
     } else {
         None
-    }
-}
-
-impl Table {
-    // An empty table in which up to so many rows can stand, with no write left; more than 1,152 rows are bad.
-    pub fn new(heap: Global, rows: u32) -> Result<Table, MakeError>
-        ensures answer { Makes table_disk rows result }
-    {
-        if rows > MAX_ROWS {
-            return Err(MakeError::Bad);
-        }
-        let places = make(heap, MAX_ROWS as usize)?;
-        Ok(Table {
-            rows: places,
-            free: rows,
-            writes: 0,
-        })
     }
 }
 
@@ -118,5 +101,19 @@ impl Store for Table {
 
     fn power(&mut self, writes: u32) {
         self.writes = writes;
+    }
+}
+
+impl Made for Table {
+    fn new(heap: Global, rows: u32) -> Result<Table, MakeError> {
+        if rows > MAX_ROWS {
+            return Err(MakeError::Bad);
+        }
+        let places = make(heap, MAX_ROWS as usize)?;
+        Ok(Table {
+            rows: places,
+            free: rows,
+            writes: 0,
+        })
     }
 }

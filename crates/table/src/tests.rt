@@ -3,7 +3,7 @@ use crate::Table;
 use std::test::Fail;
 use store::change::{Change, apply};
 use store::kind::{Kind, Refusal};
-use store::making::MakeError;
+use store::making::{Made, MakeError};
 use store::{ROW_BYTES, Store};
 
 #[test]

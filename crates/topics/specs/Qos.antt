@@ -1,7 +1,8 @@
 -- The quality of service.
-use Rattle.std.specs.Prelude.{◌≡◌, ℕ, min, max, cond, Some, None, Option, ◌==◌, nat_le}
+use Rattle.std.specs.Prelude.{◌≡◌, ℕ, min, max, cond, Some, None, Option, Result, MatchResult, ◌==◌, nat_le}
 use Rattle.topics.specs.declared.qos.Qos.{Qos}
 use Rattle.topics.specs.declared.qos.Qos.TheVariants.{AtMostOnce, AtLeastOnce, ExactlyOnce}
+use Rattle.topics.specs.declared.qos.UnknownQos.{UnknownQos}
 
 -- the number that stands for it in packets and rows
 abbrev pub qos_number : Qos → ℕ
@@ -12,6 +13,10 @@ qos_number ExactlyOnce = 2
 -- the one with this number; numbers above 2 stand for none
 abbrev pub qos_of : ℕ → Option Qos
 qos_of n = cond (n == 0) (Some AtMostOnce) (cond (n == 1) (Some AtLeastOnce) (cond (n == 2) (Some ExactlyOnce) None))
+
+-- the result is the one with this number, or the number itself where none has it
+abbrev pub Decodes : ℕ → Result Qos UnknownQos → Type 0
+Decodes n r = MatchResult r (λ q. qos_of n ≡ Some q) (λ e. (qos_of n ≡ None) × (e.0 ≡ n))
 
 -- the one of two with the lesser number
 abbrev pub lesser : Qos → Qos → Qos

@@ -1,13 +1,32 @@
 // The quality of service of a message or a subscription.
 ghost use Rattle.std.specs.Prelude.{◌≡◌};
-ghost use Rattle.topics.specs.Qos.{QosLaw, greater, lesser, qos_number, qos_of};
+ghost use Rattle.topics.specs.Qos.{Decodes, QosLaw, greater, lesser, qos_number, qos_of};
 
 /// How often a message may arrive: at most once (0), at least once (1), exactly once (2).
-#[derive(Clone, Copy, Debug, PartialEq, Eq)]
+#[derive(Clone, Copy, Debug, PartialEq, Eq, PartialOrd, Ord)]
 pub enum Qos {
-    AtMostOnce,
-    AtLeastOnce,
-    ExactlyOnce,
+    AtMostOnce = 0,
+    AtLeastOnce = 1,
+    ExactlyOnce = 2,
+}
+
+/// A number that no quality of service has.
+#[derive(Clone, Copy, Debug, PartialEq, Eq)]
+pub struct UnknownQos(pub u8);
+
+impl TryFrom<u8> for Qos {
+    type Error = UnknownQos;
+
+    ghost try_from_gives = { Decodes };
+
+    fn try_from(n: u8) -> Result<Qos, UnknownQos> {
+        match n {
+            0 => Ok(Qos::AtMostOnce),
+            1 => Ok(Qos::AtLeastOnce),
+            2 => Ok(Qos::ExactlyOnce),
+            _ => Err(UnknownQos(n)),
+        }
+    }
 }
 
 impl Qos {
@@ -27,33 +46,21 @@ impl Qos {
     pub fn number(self) -> u8
         ensures answer { result ≡ qos_number self }
     {
-        match self {
-            Qos::AtMostOnce => 0,
-            Qos::AtLeastOnce => 1,
-            Qos::ExactlyOnce => 2,
-        }
+        self as u8
     }
 
     /// The lesser of the two.
     pub fn lesser(self, other: Qos) -> Qos
         ensures answer { result ≡ lesser self other }
     {
-        if self.number() <= other.number() {
-            self
-        } else {
-            other
-        }
+        self.min(other)
     }
 
     /// The greater of the two.
     pub fn greater(self, other: Qos) -> Qos
         ensures answer { result ≡ greater self other }
     {
-        if self.number() >= other.number() {
-            self
-        } else {
-            other
-        }
+        self.max(other)
     }
 }
 

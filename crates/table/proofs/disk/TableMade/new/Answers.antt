@@ -1,7 +1,7 @@
 use Rattle.std.proofs.Common.{arith}
 use Rattle.table.specs.Rows.{contents}
 use Rattle.table.proofs.Places.{empty-counted, empty_disk_lem}
-use Rattle.table.proofs.Table.new.Goals as goal
+use Rattle.table.proofs.disk.TableMade.new.Goals as goal
 
 pub invariant_of-result : goal.invariant_of-result
 invariant_of-result c =
