@@ -15,6 +15,7 @@ ghost use Rattle.topics.specs.Matching.{
 };
 
 /// Whether the filter takes the topic, level by level: + takes one level, # the rest and also the parent, another level its own bytes.
+#[tactic(auto, unfolding(crate::specs::Matching::takes))]
 pub fn matches(filter: &[u8], topic: &[u8]) -> bool
     ensures answer { result ≡ takes filter.now topic.now }
 {
@@ -57,13 +58,11 @@ fn level_at(filter: &[u8], start: bool) -> Level
 }
 
 // What is left of the filter takes the end of a topic: nothing, or the # below its last level.
+#[tactic(auto, using(crate::proofs::Steps::end_other))]
 fn takes_end(filter: &[u8]) -> bool
     ensures answer { result ≡ takes_from false (levels filter.now) (levels []) }
 {
-    match filter {
-        [] | [b'/', b'#'] => true,
-        _ => false,
-    }
+    matches!(filter, [] | [b'/', b'#'])
 }
 
 // What follows the first level: nothing, or the rest from its slash on.

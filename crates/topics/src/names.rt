@@ -2,8 +2,8 @@
 ghost use Rattle.std.specs.Prelude.{◌≡◌};
 ghost use Rattle.std.specs.Char.{is_ascii_alphanumeric};
 ghost use Rattle.topics.specs.Levels.{levels};
-ghost use Rattle.topics.specs.Names.{FirstWildcard, NamesLaw, is_client_id, is_topic_filter, is_topic_name, lawful_from, sized, wildcard};
 ghost use Rattle.topics.specs.Text.{every};
+ghost use Rattle.topics.specs.Names.{FirstWildcard, NamesLaw, is_client_id, is_topic_filter, is_topic_name, lawful_from, sized, wildcard};
 
 use crate::text::is_text;
 
@@ -14,6 +14,7 @@ pub const MAX_TOPIC: usize = 64;
 pub const MAX_CLIENT_ID: usize = 23;
 
 /// Whether the bytes are a topic name: 1 to 64 bytes of text with neither + nor #.
+#[tactic(auto, using(crate::proofs::Wildcards::first_wildcard), unfolding(crate::specs::Names::is_topic_name))]
 pub fn is_topic_name(bytes: &[u8]) -> bool
     ensures answer { result ≡ is_topic_name bytes.now }
 {
@@ -21,6 +22,7 @@ pub fn is_topic_name(bytes: &[u8]) -> bool
 }
 
 /// Whether the bytes are a topic filter: 1 to 64 bytes of text, + only as a whole level, # only as the whole last level.
+#[tactic(auto, unfolding(crate::specs::Names::is_topic_filter))]
 pub fn is_topic_filter(bytes: &[u8]) -> bool
     ensures answer { result ≡ is_topic_filter bytes.now }
 {
@@ -28,6 +30,7 @@ pub fn is_topic_filter(bytes: &[u8]) -> bool
 }
 
 /// Whether the bytes are a client identifier: 1 to 23 bytes of 0-9, A-Z and a-z.
+#[tactic(auto, unfolding(crate::specs::Names::is_client_id))]
 pub fn is_client_identifier(bytes: &[u8]) -> bool
     ensures answer { result ≡ is_client_id bytes.now }
 {
@@ -48,7 +51,7 @@ fn is_sized(bytes: &[u8], most: usize) -> bool
 fn is_wildcard(b: u8) -> bool
     ensures answer { result ≡ wildcard b }
 {
-    b == b'+' || b == b'#'
+    matches!(b, b'+' | b'#')
 }
 
 // The place of the first + or #.
@@ -79,10 +82,5 @@ fn has_lawful_levels(filter: &[u8], start: bool) -> bool
 fn is_alphanumeric(bytes: &[u8]) -> bool
     ensures answer { result ≡ every is_ascii_alphanumeric bytes.now }
 {
-    for b in bytes {
-        if !b.is_ascii_alphanumeric() {
-            return false;
-        }
-    }
-    true
+    bytes.iter().all(u8::is_ascii_alphanumeric)
 }

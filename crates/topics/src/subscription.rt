@@ -13,26 +13,24 @@ pub struct Subscription<'a> {
 }
 
 /// The highest quality of service among the subscriptions whose filter takes the topic, or none where no filter does.
+#[tactic(auto, unfolding(crate::specs::Subscription::granted))]
 pub fn granted(subscriptions: &[Subscription], topic: &[u8]) -> Option<Qos>
     ensures answer { result ≡ granted (map subscribed subscriptions.now) topic.now }
 {
-    let mut best = None;
-    for s in subscriptions {
-        best = raise(best, s.filter, s.qos, topic);
-    }
-    best
+    subscriptions
+        .iter()
+        .fold(None, |best, s| raise(best, s.filter, s.qos, topic))
 }
 
 /// What is granted so far, raised by one more filter where that takes the topic.
+#[tactic(auto, unfolding(crate::specs::Subscription::raised))]
 pub fn raise(best: Option<Qos>, filter: &[u8], qos: Qos, topic: &[u8]) -> Option<Qos>
     ensures answer { result ≡ raised best filter.now qos topic.now }
 {
-    if !matches(filter, topic) {
-        return best;
-    }
-    match best {
-        Some(b) => Some(b.greater(qos)),
-        None => Some(qos),
+    if matches(filter, topic) {
+        best.max(Some(qos))
+    } else {
+        best
     }
 }
 
