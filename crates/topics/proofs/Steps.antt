@@ -12,9 +12,9 @@ use Rattle.topics.proofs.Wildcards.{after}
 
 -- ---- past a level
 
-pub past-empty : (bs : List ℕ) → length bs < 1 → bs ≡ past_level bs
-past-empty [] p = refl
-past-empty (b ∷ bs) p = absurd (omega arith)
+pub past_empty : (bs : List ℕ) → length bs < 1 → bs ≡ past_level bs
+past_empty [] p = refl
+past_empty (b ∷ bs) p = absurd (omega arith)
 
 pub past_slash : (bs : List ℕ) → 0 < length bs → get_or bs 0 0 ≡ 47 → bs ≡ past_level bs
 past_slash [] p e = absurd (omega arith)
@@ -136,9 +136,9 @@ past_plus : (s : Bool) (f : ℕ) (fs : List ℕ) → Plus ≡ level_at s (levels
 past_plus s f fs e true d = absurd (no_plus s (levels fs) (e ∙ ap (level_at s) (at_slash f fs (eqb-true f 47 d))))
 past_plus s f fs e false d = omega (arith, length-past fs)
 
-pub length-past_plus : (s : Bool) (fs : List ℕ) → Plus ≡ level_at s (levels fs) → length (past_level fs) < length fs
-length-past_plus s [] e = absurd (no_plus s [] e)
-length-past_plus s (f ∷ fs) e = past_plus s f fs e (eqb f 47) refl
+pub past_shorter : (s : Bool) (fs : List ℕ) → Plus ≡ level_at s (levels fs) → length (past_level fs) < length fs
+past_shorter s [] e = absurd (no_plus s [] e)
+past_shorter s (f ∷ fs) e = past_plus s f fs e (eqb f 47) refl
 
 -- ---- a plain level: byte by byte
 
@@ -197,11 +197,11 @@ apart f t fs ts q false false e d =
     ∙ ap (λ x. takes_from false x (in_front t (levels ts))) (sym (at_byte f fs (eqb-false f 47 e)))
     ∙ ap (takes_from false (levels (f ∷ fs))) (sym (at_byte t ts (eqb-false t 47 d)))
 
-pub takes-apart : (s : Bool) (fs ts : List ℕ) → Plain ≡ level_at s (levels fs) → 0 < length fs → 0 < length ts → (get_or fs 0 0 ≡ get_or ts 0 0 → ⊥)
+pub takes_apart : (s : Bool) (fs ts : List ℕ) → Plain ≡ level_at s (levels fs) → 0 < length fs → 0 < length ts → (get_or fs 0 0 ≡ get_or ts 0 0 → ⊥)
     → false ≡ takes_from s (levels fs) (levels ts)
-takes-apart s [] ts n p r q = absurd (omega arith)
-takes-apart s (f ∷ fs) [] n p r q = absurd (omega arith)
-takes-apart s (f ∷ fs) (t ∷ ts) n p r q = apart f t fs ts q (eqb f 47) (eqb t 47) refl refl ∙ inside s (f ∷ fs) (t ∷ ts) n
+takes_apart s [] ts n p r q = absurd (omega arith)
+takes_apart s (f ∷ fs) [] n p r q = absurd (omega arith)
+takes_apart s (f ∷ fs) (t ∷ ts) n p r q = apart f t fs ts q (eqb f 47) (eqb t 47) refl refl ∙ inside s (f ∷ fs) (t ∷ ts) n
 
 -- ---- at the end of one
 
@@ -263,3 +263,8 @@ end_other (f ∷ fs) p r = long_by f fs (λ h e. r (ap (λ xs. length (f ∷ xs)
 pub takes_end : (s : Bool) (fs ts : List ℕ) → Plain ≡ level_at s (levels fs) → length ts < 1 → takes_from false (levels fs) (levels []) ≡ takes_from s (levels fs) (levels ts)
 takes_end s fs [] n q = inside s fs [] n
 takes_end s fs (t ∷ ts) n q = absurd (omega arith)
+
+-- what past_level, level_at and takes_from cite
+pub ruleset past = (past_empty, past_slash, past_byte)
+pub ruleset kinds = (level_hash, level_plus, level_plus_slash, level_plain)
+pub ruleset steps = (past_shorter, takes_plus, takes_step, takes_apart, takes_end)

@@ -16,10 +16,10 @@ first_wildcard bs None r h e = not-false r (sym e) ∙ sym h
 first_wildcard bs (Some i) r h e =
     not-true r (sym e) ∙ sym (every-not (λ b. not (wildcard b)) bs i h.0 (not_from_true (wildcard (get_or bs i 0)) h.1))
 
-pub lawful-empty : (s : Bool) (fs : List ℕ) → length fs < 1 → true ≡ lawful_from s (levels fs)
-lawful-empty true [] p = refl
-lawful-empty false [] p = refl
-lawful-empty s (f ∷ fs) p = absurd (omega arith)
+pub lawful_empty : (s : Bool) (fs : List ℕ) → length fs < 1 → true ≡ lawful_from s (levels fs)
+lawful_empty true [] p = refl
+lawful_empty false [] p = refl
+lawful_empty s (f ∷ fs) p = absurd (omega arith)
 
 plus_alone : (s : Bool) → s ≡ lawful_from s (levels (43 ∷ []))
 plus_alone true = refl
@@ -114,3 +114,6 @@ plain_then s f fs w false e =
 pub lawful_byte : (s : Bool) (fs : List ℕ) → 0 < length fs → wildcard (get_or fs 0 0) ≡ false → lawful_from (eqb (get_or fs 0 0) 47) (levels (after 1 fs)) ≡ lawful_from s (levels fs)
 lawful_byte s [] p w = absurd (omega arith)
 lawful_byte s (f ∷ fs) p w = ap (λ xs. lawful_from (eqb f 47) (levels xs)) (take_rest (f ∷ fs) 1) ∙ plain_then s f fs w (eqb f 47) refl
+
+-- what has_lawful_levels cites
+pub ruleset lawful_steps = (lawful_empty, lawful_alone, lawful_plus_slash, lawful_plus_byte, lawful_hash_byte, lawful_byte)

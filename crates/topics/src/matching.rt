@@ -23,6 +23,7 @@ pub fn matches(filter: &[u8], topic: &[u8]) -> bool
 }
 
 // A level starts here in both, or one goes on that agrees so far.
+#[tactic(auto, using(crate::proofs::Steps::steps))]
 fn takes_from(filter: &[u8], topic: &[u8], start: bool) -> bool
     ensures answer { result ≡ takes_from start (levels filter.now) (levels topic.now) }
 {
@@ -44,6 +45,7 @@ enum Level {
 }
 
 // The kind of the level here. A level that goes on is plain.
+#[tactic(auto, using(crate::proofs::Steps::kinds))]
 fn level_at(filter: &[u8], start: bool) -> Level
     ensures answer { result ≡ level_at start (levels filter.now) }
 {
@@ -66,6 +68,7 @@ fn takes_end(filter: &[u8]) -> bool
 }
 
 // What follows the first level: nothing, or the rest from its slash on.
+#[tactic(auto, using(crate::proofs::Steps::past))]
 fn past_level(bytes: &[u8]) -> &[u8]
     ensures answer { result.now ≡ past_level bytes.now }
     ensures bound { length result.now ≤ length bytes.now }

@@ -67,6 +67,7 @@ fn first_wildcard(bytes: &[u8]) -> Option<usize>
 }
 
 // Whether each level from here on is lawful. A level starts here, or one that is no wildcard goes on.
+#[tactic(auto, using(crate::proofs::Wildcards::lawful_steps))]
 fn has_lawful_levels(filter: &[u8], start: bool) -> bool
     ensures answer { result ≡ lawful_from start (levels filter.now) }
 {
