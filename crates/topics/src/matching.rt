@@ -80,16 +80,19 @@ fn past_level(bytes: &[u8]) -> &[u8]
 }
 
 /// A filter takes a topic exactly when each of its levels takes one of the topic's, or all but a last # take the first ones.
+#[tactic(auto, using(crate::proofs::Laws::matching_law))]
 pub fn matching_law()
     ensures law { MatchingLaw }
 {}
 
 /// The filter # takes every topic.
+#[tactic(auto, using(crate::proofs::Laws::hash_law))]
 pub fn hash_law()
     ensures law { HashLaw }
 {}
 
 /// A filter without wildcards takes exactly itself.
+#[tactic(auto, using(crate::proofs::Laws::plain_law))]
 pub fn plain_law()
     ensures law { PlainLaw }
 {}
@@ -100,11 +103,13 @@ pub fn below_law()
 {}
 
 /// A filter that does not end in # takes only topics with as many levels.
+#[tactic(auto, using(crate::proofs::Laws::count_law))]
 pub fn count_law()
     ensures law { CountLaw }
 {}
 
 /// The examples by which the rule is taught.
+#[tactic(auto, using(crate::proofs::Laws::examples))]
 pub fn matching_examples()
     ensures examples { Examples }
 {}

@@ -38,6 +38,7 @@ pub fn is_client_identifier(bytes: &[u8]) -> bool
 }
 
 /// A client identifier is text, and a topic name is a topic filter.
+#[tactic(auto, using(crate::proofs::NameFacts::names_law))]
 pub fn names_law()
     ensures law { NamesLaw }
 {}

@@ -65,6 +65,7 @@ impl Qos {
 }
 
 /// Each number up to 2 stands for one quality of service, and lesser and greater go by these numbers.
+#[tactic(auto, using(crate::proofs::Qualities::qos_law))]
 pub fn qos_law()
     ensures law { QosLaw }
 {}

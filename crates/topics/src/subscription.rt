@@ -35,6 +35,7 @@ pub fn raise(best: Option<Qos>, filter: &[u8], qos: Qos, topic: &[u8]) -> Option
 }
 
 /// What is granted is the highest of what takes the topic.
+#[tactic(auto, using(crate::proofs::Grants::granted_law))]
 pub fn granted_law()
     ensures law { GrantedLaw }
 {}

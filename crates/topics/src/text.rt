@@ -20,6 +20,7 @@ fn is_allowed(text: &str) -> bool
 }
 
 /// A text is the encoding of some characters that are all allowed, and nothing else is one.
+#[tactic(auto, using(crate::proofs::Texts::text_law))]
 pub fn text_law()
     ensures law { TextLaw }
 {}
