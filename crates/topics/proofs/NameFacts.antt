@@ -17,16 +17,7 @@ sized_parts most bs e =
     let p = and_parts (ltb 0 (length bs)) (leb (length bs) most) e in
     (ltb-true 0 (length bs) p.0, leb-true (length bs) most p.1)
 
--- what holds of each topic name
-pub name_parts : (bs : List ℕ) → is_topic_name bs ≡ true → (0 < length bs) × (length bs ≤ 64) × (is_text bs ≡ true) × (plain bs ≡ true)
-unfolding is_topic_name
-name_parts bs e =
-    let p = and_parts (sized max_topic bs && is_text bs) (plain bs) e in
-    let q = and_parts (sized max_topic bs) (is_text bs) p.0 in
-    let s = sized_parts max_topic bs q.0 in
-    (s.0, s.1, q.1, p.1)
-
--- of each topic filter
+-- what holds of each topic filter
 pub filter_parts : (bs : List ℕ) → is_topic_filter bs ≡ true → (0 < length bs) × (length bs ≤ 64) × (is_text bs ≡ true) × (lawful (levels bs) ≡ true)
 unfolding is_topic_filter
 filter_parts bs e =

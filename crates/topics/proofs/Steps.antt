@@ -205,17 +205,6 @@ takes_apart s (f ∷ fs) (t ∷ ts) n p r q = apart f t fs ts q (eqb f 47) (eqb 
 
 -- ---- at the end of one
 
-pub end_empty : (fs : List ℕ) → length fs < 1 → true ≡ takes_from false (levels fs) (levels [])
-end_empty [] p = refl
-end_empty (f ∷ fs) p = absurd (omega arith)
-
-pub end_hash : (fs : List ℕ) → length fs ≡ 2 → get_or fs 0 0 ≡ 47 → get_or fs 1 0 ≡ 35 → true ≡ takes_from false (levels fs) (levels [])
-end_hash [] p q r = absurd (omega arith)
-end_hash (f ∷ []) p q r = absurd (omega arith)
-end_hash (f ∷ g ∷ []) p q r =
-    ap (λ b. takes_from false (levels (47 ∷ b ∷ [])) (levels [])) (sym r) ∙ ap (λ b. takes_from false (levels (b ∷ g ∷ [])) (levels [])) (sym q)
-end_hash (f ∷ g ∷ h ∷ fs) p q r = absurd (omega arith)
-
 nil_by : (t : ℕ) (ts : List ℕ) (v : Bool) → eqb t 47 ≡ v → false ≡ takes_from false ([] ∷ []) (levels (t ∷ ts))
 nil_by t ts true e =
     at_levels (λ y. false ≡ takes_from false ([] ∷ []) ([] ∷ y)) ts (λ m ms. refl) ∙ ap (takes_from false ([] ∷ [])) (sym (at_slash t ts (eqb-true t 47 e)))

@@ -1,10 +1,10 @@
 -- The text rule as a test, and its characters one by one.
-use Rattle.std.proofs.Common.{◌≡◌, ℕ, true, false, ◌&&◌, List, [], ◌++◌, IsUtf8, sym, refl, ap, ◌∙◌}
-use lib.Utf8.{encode, encodes, scalars}
+use Rattle.std.proofs.Common.{◌≡◌, ℕ, true, false, ◌&&◌, List, IsUtf8, sym, refl, ap, ◌∙◌}
+use lib.Utf8.{encodes, scalars}
 use Rattle.std.specs.Str.{chars, bytes_eq}
 use Rattle.std.proofs.lemmas.Slice.Eq.{bytes_eq-Decides}
 use Rattle.std.proofs.lemmas.Bool.{and_parts, and_from}
-use Rattle.std.proofs.lemmas.Str.{encodes-chars, scalars-chars, chars_past_char, chars_from_encodes}
+use Rattle.std.proofs.lemmas.Str.{encodes-chars, scalars-chars, chars_from_encodes}
 use Rattle.topics.specs.Text.{TextLaw, allowed, every, is_text, well_formed}
 
 pub well_formed_lem : (bs : List ℕ) → IsUtf8 bs → well_formed bs ≡ true
@@ -30,19 +30,6 @@ text_utf8 bs u = sym (ap (λ b. b && every allowed (chars bs)) (well_formed_lem 
 pub text_not_utf8 : (bs : List ℕ) → (IsUtf8 bs → ⊥) → false ≡ is_text bs
 unfolding is_text
 text_not_utf8 bs n = sym (ap (λ b. b && every allowed (chars bs)) (ill_formed bs n))
-
--- text is UTF-8
-pub utf8_from_text : (bs : List ℕ) → is_text bs ≡ true → IsUtf8 bs
-unfolding is_text
-utf8_from_text bs e = from_well_formed bs (and_parts (well_formed bs) (every allowed (chars bs)) e).0
-
--- one character further
-pub every-past : (bs rest : List ℕ) (c : ℕ) → IsUtf8 bs → bs ≡ encode c ++ rest → every allowed (chars bs) ≡ (allowed c && every allowed (chars rest))
-every-past bs rest c u e = ap (every allowed) (chars_past_char bs rest c u e)
-
-pub every_end : (bs : List ℕ) → bs ≡ [] → every allowed (chars bs) ≡ true
-unfolding chars
-every_end bs e = ap (λ xs. every allowed (chars xs)) e
 
 pub text_law : TextLaw
 unfolding is_text
