@@ -1,12 +1,12 @@
 -- The laws of matching.
-use Rattle.std.proofs.Common.{◌≡◌, ℕ, suc, Bool, true, false, not, ◌&&◌, eqb, ◌⊎◌, List, [], ◌∷◌, ◌++◌, length, drop, Decides, sym, refl, ap, ◌∙◌, subst, inl, inr, arith}
+use Rattle.std.proofs.Common.{◌≡◌, ℕ, suc, true, false, ◌&&◌, ◌⊎◌, List, [], ◌∷◌, ◌++◌, length, drop, Decides, sym, refl, ap, ◌∙◌, inl, inr, arith}
 use Rattle.std.proofs.lemmas.List.{append-nil}
 use Rattle.std.specs.List.{AllZip, AllByRecursion}
 use Rattle.std.specs.Str.{bytes_eq}
 use Rattle.std.proofs.lemmas.Slice.Eq.{bytes_eq-Decides}
 use Rattle.std.proofs.lemmas.Bool.{and_parts, or_cases, or_left, or_right, both_ways}
 use Rattle.std.proofs.lemmas.Bool.Decides.{nat_tests}
-use Rattle.topics.specs.Levels.{levels, in_front, unslashed, with_slashes}
+use Rattle.topics.specs.Levels.{levels, unslashed, with_slashes}
 use Rattle.topics.specs.Names.{is_end, is_hash, is_plus, plain}
 use Rattle.topics.specs.Matching.{BelowLaw, CountLaw, Examples, HashLaw, MatchingLaw, PlainLaw, TakesLevel, TakesRest, last_is_hash, takes, takes_level, takes_levels}
 use Rattle.topics.proofs.Cuts.{first_level, rejoined}

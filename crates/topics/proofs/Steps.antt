@@ -108,5 +108,7 @@ takes_end s fs (t ∷ ts) n q = absurd (omega arith)
 
 -- what past_level, level_at and takes_from cite
 pub ruleset past = (past_empty, past_slash, past_byte)
+
 pub ruleset kinds = (level_hash, level_plus, level_plus_slash, level_plain)
+
 pub ruleset steps = (past_shorter, takes_plus, takes_step, takes_apart, takes_end)

@@ -1,5 +1,5 @@
 -- The text rule as a test.
-use Rattle.std.proofs.Common.{◌≡◌, ℕ, true, false, List, IsUtf8, sym, refl, ap, ◌∙◌, arith}
+use Rattle.std.proofs.Common.{◌≡◌, ℕ, true, false, List, IsUtf8, sym, ap, ◌∙◌, arith}
 use lib.Utf8.{encodes, scalars}
 use Rattle.std.specs.Str.{chars, bytes_eq}
 use Rattle.std.proofs.lemmas.Slice.Eq.{bytes_eq-Decides}

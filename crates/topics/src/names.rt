@@ -55,7 +55,7 @@ fn is_wildcard(b: u8) -> bool
     matches!(b, b'+' | b'#')
 }
 
-// The place of the first + or #.
+// The place of the first + or #. A for with an index, not a chain: the rule for topic names asks for that search.
 fn first_wildcard(bytes: &[u8]) -> Option<usize>
     ensures answer { FirstWildcard bytes.now result }
 {

@@ -49,14 +49,14 @@ impl Qos {
         self as u8
     }
 
-    /// The lesser of the two.
+    /// The lesser of the two. Beside Ord's min, as this contract says in the words of the rules which one comes out.
     pub fn lesser(self, other: Qos) -> Qos
         ensures answer { result ≡ lesser self other }
     {
         self.min(other)
     }
 
-    /// The greater of the two.
+    /// The greater of the two. Beside Ord's max, for the same reason.
     pub fn greater(self, other: Qos) -> Qos
         ensures answer { result ≡ greater self other }
     {

@@ -31,7 +31,9 @@ impl Subscription<'_> {
 pub fn granted(subscriptions: &[Subscription], topic: &[u8]) -> Option<Qos>
     ensures answer { result ≡ granted (map subscribed subscriptions.now) topic.now }
 {
-    subscriptions.iter().fold(None, |best, s| s.raise(best, topic))
+    subscriptions
+        .iter()
+        .fold(None, |best, s| s.raise(best, topic))
 }
 
 /// What is granted is the highest of what takes the topic.
