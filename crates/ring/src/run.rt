@@ -19,14 +19,6 @@ pub enum Answer<T> {
     OfPop(Option<T>),
 }
 
-// Writes one place of a list of any items.
-fn put<A: Copy>(list: &mut [A], i: usize, item: A)
-    requires { i < length list.old }
-    ensures { list.new ≡ slice_set list.old i item }
-{
-    list[i] = item;
-}
-
 impl Ring {
     // Pushes or pops, as the step says.
     pub fn step<T: Copy>(&mut self, memory: &mut [T], step: Step<T>) -> Answer<T>
@@ -52,8 +44,7 @@ impl Ring {
     {
         let count = steps.len().min(answers.len());
         for i in 0..count {
-            let answer = self.step(memory, steps[i]);
-            put(answers, i, answer);
+            answers[i] = self.step(memory, steps[i]);
         }
         count
     }
