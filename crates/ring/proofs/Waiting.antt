@@ -120,7 +120,11 @@ oldest_from_got (w ∷ ws) (Some x) h = ap (λ y. y ∷ ws) (sym h.1)
 
 -- what the calls cite
 pub ruleset lengths = (waiting-length)
+
 pub ruleset pops = (popped_room, popped)
+
 pub ruleset pushes = (waiting-length, waiting_push)
+
 pub ruleset reads = (waiting-length, get_or-waiting)
+
 pub ruleset sets = (waiting-length, waiting-set)

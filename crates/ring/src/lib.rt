@@ -10,10 +10,19 @@ pub mod run;
 mod tests;
 
 // Where the first entry stands and how many wait. Any two numbers are a ring: calls reduce them to the memory they are lent.
-#[derive(Clone, Copy, Debug, Default)]
+#[derive(Clone, Copy, Debug)]
 pub struct Ring {
     first: usize,
     count: usize,
+}
+
+// A new ring.
+impl Default for Ring {
+    ghost is_default = { λ r. r ≡ empty };
+
+    fn default() -> Ring {
+        Ring::new()
+    }
 }
 
 impl Ring {
@@ -88,10 +97,7 @@ impl Ring {
     pub fn get<T: Copy>(&self, memory: &[T], i: usize) -> Option<T>
         ensures { Got (waiting self.now memory.now) i result }
     {
-        if i >= self.len(memory) {
-            return None;
-        }
-        Some(memory[self.place(memory, i)])
+        (i < self.len(memory)).then(|| memory[self.place(memory, i)])
     }
 
     // Puts `entry` in place of the i-th oldest; refuses exactly when no more than `i` wait, and hands the entry back.

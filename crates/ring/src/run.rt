@@ -6,14 +6,14 @@ ghost use Rattle.ring.specs.Run.{Stepped, Runs, Queues};
 use super::Ring;
 
 // One call of a run.
-#[derive(Clone, Copy)]
+#[derive(Clone, Copy, Debug, PartialEq, Eq)]
 pub enum Step<T> {
     Push(T),
     Pop,
 }
 
 // What that call answered.
-#[derive(Clone, Copy)]
+#[derive(Clone, Copy, Debug, PartialEq, Eq)]
 pub enum Answer<T> {
     OfPush(Result<(), T>),
     OfPop(Option<T>),
@@ -43,6 +43,7 @@ impl Ring {
         ensures queue { Queues (length memory.old) (waiting self.old memory.old) (take result steps.now) (take result answers.new) (waiting self.new memory.new) }
     {
         let count = steps.len().min(answers.len());
+        // Counted: of what a zip over answers.iter_mut() wrote a proof learns nothing, and an index for the answers alone is no plainer.
         for i in 0..count {
             answers[i] = self.step(memory, steps[i]);
         }

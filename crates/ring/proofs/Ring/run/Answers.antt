@@ -9,7 +9,7 @@ loop-i-init g c = (start, refl)
 pub loop-i-preserved : goal.loop-i-preserved
 loop-i-preserved g c = (
   runs_more c.args.self.now c.args.memory.now c.args.steps.now c.loop-i.answers c.loop-i.i c.loop-i.self c.step.new.self c.loop-i.memory c.step.new.memory
-  c.index-steps-i.result c.step.result (omega arith) (omega arith) c.index-steps-i.is c.loop-i.invariant.0 c.step.ensures,
+      c.index-steps-i.result c.step.result (omega arith) (omega arith) c.index-steps-i.is c.loop-i.invariant.0 c.step.ensures,
   rest_more c.loop-i.answers c.args.answers.now c.loop-i.i c.step.result c.loop-i.invariant.1,
 )
 
