@@ -5,7 +5,9 @@ ghost use Rattle.std.specs.Prelude.{◌≡◌, ◌≤◌, IfOk};
 ghost use Rattle.std.specs.Borrow.{GName};
 ghost use Rattle.store.specs.Disk.{Disk, Sound, load_answer, load_buffer, put_answer, put_after, drop_answer, drop_after, powered};
 
+pub mod budget;
 pub mod change;
+pub mod key;
 pub mod kind;
 pub mod making;
 pub mod row;
