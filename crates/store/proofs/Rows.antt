@@ -8,6 +8,7 @@ use Rattle.store.specs.declared.kind.Kind.TheVariants.{Session, Message}
 use Rattle.store.specs.declared.kind.Refusal.{Refusal}
 use Rattle.store.specs.Kind.{same_kind}
 use Rattle.store.specs.Disk.{Disk, with_row, load_answer, put_answer, drop_answer}
+use Rattle.store.specs.Row.{row_answer, write_answer}
 use Rattle.store.specs.Change.{PutPossible, DropPossible}
 
 -- two disks are equal where their parts are
@@ -87,3 +88,7 @@ put_ok d k n row p = ok_is (put_answer d k n row) ((put-done d k n row).1 p)
 
 pub drop_ok : (d : Disk) (k : Kind) (n : ℕ) → DropPossible d k n → Ok tt ≡ drop_answer d k n
 drop_ok d k n p = ok_is (drop_answer d k n) ((drop-done d k n).1 p)
+
+-- a row that is put fits into its memory
+pub row_fits : (row : List ℕ) (x : Unit {0}) → Ok x ≡ row_answer row → write_answer row ≡ Ok tt
+row_fits row x e = grind (arith, nat_tests)
