@@ -6,7 +6,7 @@ use Rattle.store.specs.declared.kind.Kind.{Kind}
 use Rattle.store.specs.declared.kind.Kind.TheVariants.{Session, Message}
 use Rattle.store.specs.Kind.{same_kind}
 use Rattle.store.specs.Making.{made_limit}
-use Rattle.journal.specs.Key.{slot}
+use Rattle.store.specs.Key.{slot}
 use Rattle.journal.specs.Changes.{Change, of_key, puts, replay, mentioned, Inside}
 use Rattle.journal.specs.Entry.{no_change, slot_of}
 use Rattle.journal.specs.Index.{noted, latest_from, latest, Knows}

@@ -92,3 +92,6 @@ drop_ok d k n p = ok_is (drop_answer d k n) ((drop-done d k n).1 p)
 -- a row that is put fits into its memory
 pub row_fits : (row : List ℕ) (x : Unit {0}) → Ok x ≡ row_answer row → write_answer row ≡ Ok tt
 row_fits row x e = grind (arith, nat_tests)
+
+pub row_filled : (row : List ℕ) (x : Unit {0}) → Ok x ≡ row_answer row → 0 < length row
+row_filled row x e = grind (arith, nat_tests)

@@ -1,11 +1,12 @@
 -- A change among the places.
-use Rattle.std.proofs.Common.{◌≡◌, ℕ, ◌+◌, ◌<◌, ◌≤◌, List, [], ◌∷◌, ◌++◌, map, length, get_or, take, drop, set, vec_items, vec_len, Option, Vec, sym, ap, ◌∙◌, subst, inl, inr, arith}
+use Rattle.std.proofs.Common.{◌≡◌, ℕ, ◌+◌, ◌<◌, ◌≤◌, List, [], ◌∷◌, ◌++◌, map, length, get_or, take, drop, set, Ok, vec_items, vec_len, Result, Vec, sym, ap, ◌∙◌, subst, inl, inr, arith}
 use Rattle.std.proofs.lemmas.List.{get_or-map, map-set, length-map, length-set, set-set, take_all, take_more_set, take-set-le, drop-set-lt, length-take-le}
 use Rattle.std.proofs.lemmas.Bool.{cases_eq, cond-true, le-leb}
 use Rattle.std.specs.List.{swap}
 use Rattle.std.specs.Vec.{with_item}
 use Rattle.std.specs.declared.alloc.Global.{Global}
-use Rattle.store.specs.Row.{read_answer, read_buffer}
+use Rattle.store.specs.declared.kind.Refusal.{Refusal}
+use Rattle.store.specs.Row.{read_answer, read_buffer, write_answer, write_after}
 use Rattle.journal.specs.declared.entry.Entry.{Entry}
 use Rattle.journal.specs.Changes.{Change}
 use Rattle.journal.specs.Entry.{change, written, kept, no_change, MovedDown}
@@ -48,9 +49,14 @@ moved_down v w to from e l h =
     (swapped (vec_items v) to from l (omega (arith, v.ok.0)))
 
 -- a read into a buffer that is long enough
-pub read_whole : (r : Option ℕ) (row buffer after : List ℕ) → r ≡ read_answer row buffer → 560 ≤ length buffer → after ≡ read_buffer r row buffer → after ≡ row ++ drop (length row) buffer
+pub read_whole : (r : Result ℕ Refusal) (row buffer after : List ℕ) → r ≡ read_answer row buffer → 560 ≤ length buffer → after ≡ read_buffer r row buffer → (r ≡ Ok (length row)) × (after ≡ row ++ drop (length row) buffer)
 read_whole r row buffer after e l f =
-    f ∙ ap (λ o. read_buffer o row buffer) (e ∙ cond-true _ _ _ (le-leb 560 (length buffer) l))
+    let a = e ∙ cond-true _ _ _ (le-leb 560 (length buffer) l) in (a, f ∙ ap (λ o. read_buffer o row buffer) a)
+
+-- a row that is short enough is taken
+pub row_written : (r : Result (Unit {0}) Refusal) (old row new : List ℕ) → r ≡ write_answer row → length row ≤ 560 → new ≡ write_after r old row → new ≡ row
+row_written r old row new e l f =
+    f ∙ ap (λ o. write_after o old row) (e ∙ cond-true _ _ _ (le-leb (length row) 560 l))
 
 pub length-kept : (v : Vec Entry Global) (n : ℕ) → n ≤ vec_len v → length (kept v n) ≡ n
 length-kept v n l = length-take-le n (written v) (omega (arith, length-written v))
