@@ -8,7 +8,7 @@ use Rattle.store.specs.declared.key.Key.{Key}
 use Rattle.journal.specs.declared.index.Index.{Index}
 use Rattle.journal.specs.declared.log.Log.{Log}
 use Rattle.store.specs.Key.{slot}
-use Rattle.journal.specs.Changes.{Change, replay, live, appended}
+use Rattle.journal.specs.Changes.{Change, replay}
 use Rattle.journal.specs.Entry.{change_of, written, kept, no_change}
 use Rattle.journal.specs.Log.{logged, places_of}
 use Rattle.journal.proofs.Written.{length-kept, kept_more}
@@ -38,11 +38,6 @@ found_row l p row t =
       omega (arith, l.within),
       ap (λ (x : Change). x.row) (sym (get_or-take l.taken (written l.places.entries) p no_change h)) ∙ t.1,
     )
-
--- one change more, written where there was room for it
-pub appended-kept : (l : Log) (v w : Vec Entry Global) (p : ℕ) (c : Change) → p < vec_len v → written w ≡ set (written v) p c → kept v p ≡ cond (ltb l.taken (places_of l)) (logged l) (live (logged l)) → kept w (p + 1) ≡ appended (places_of l) (logged l) c
-appended-kept l v w p c h e f =
-    kept_more v w p c h e ∙ ap (λ cs. cs ++ c ∷ []) (f ∙ ap (λ n. cond (ltb n (places_of l)) (logged l) (live (logged l))) (sym (length-logged l)))
 
 -- the index knows of it once it has been told
 pub appended_knows : (v w : Vec Entry Global) (index : Index) (after : List (Option ℕ)) (key : Key) (row : List ℕ) (p : ℕ) → p < vec_len v → Knows (pointers index) (kept v p) → written w ≡ set (written v) p (change_of key row) → after ≡ set (pointers index) (slot key.kind key.number) (cond (ltb 0 (length row)) (Some p) None) → Knows after (kept w (p + 1))

@@ -1,6 +1,6 @@
 -- A change among the places.
 use Rattle.std.proofs.Common.{◌≡◌, ℕ, ◌+◌, ◌<◌, ◌≤◌, List, [], ◌∷◌, ◌++◌, map, length, get_or, take, drop, set, Ok, vec_items, vec_len, Result, Vec, sym, ap, ◌∙◌, subst, inl, inr, arith}
-use Rattle.std.proofs.lemmas.List.{get_or-map, map-set, length-map, length-set, set-set, take_all, take_more_set, take-set-le, drop-set-lt, length-take-le}
+use Rattle.std.proofs.lemmas.List.{get_or-map, map-set, length-map, length-set, set-set, take_more_set, take-set-le, drop-set-lt, length-take-le}
 use Rattle.std.proofs.lemmas.Bool.{cases_eq, cond-true, le-leb}
 use Rattle.std.specs.List.{swap}
 use Rattle.std.specs.Vec.{with_item}
@@ -60,9 +60,6 @@ row_written r old row new e l f =
 
 pub length-kept : (v : Vec Entry Global) (n : ℕ) → n ≤ vec_len v → length (kept v n) ≡ n
 length-kept v n l = length-take-le n (written v) (omega (arith, length-written v))
-
-pub kept-all : (v : Vec Entry Global) (n : ℕ) → vec_len v ≤ n → kept v n ≡ written v
-kept-all v n l = take_all n (written v) (omega (arith, length-written v))
 
 -- a change written behind those that are kept
 pub kept_more : (v w : Vec Entry Global) (p : ℕ) (c : Change) → p < vec_len v → written w ≡ set (written v) p c → kept w (p + 1) ≡ kept v p ++ c ∷ []

@@ -20,6 +20,7 @@ use kind::{Kind, Refusal};
 pub const ROW_BYTES: usize = 560;
 
 // Rows under a kind and a number. A write is whole or absent, and a refusal alters nothing.
+// A kind and a number stay two plain values: each store has limits of its own, and refuses a bad key itself.
 pub trait Store {
     // The rows, limits, free rows and writes left that this store shows.
     ghost disk: { Self → Disk };
