@@ -1,13 +1,13 @@
 -- A clearing, change by change.
-use Rattle.std.proofs.Common.{◌≡◌, ℕ, ◌+◌, ◌<◌, ◌≤◌, Bool, true, false, cond, not, eqb, List, [], ◌∷◌, ◌++◌, length, get_or, take, drop, set, Some, None, Option, sym, refl, ap, ◌∙◌, inl, inr, arith}
-use Rattle.std.proofs.lemmas.List.{append-nil, append_assoc, drop_more, drop-drop, drop_all, length-set, length-take, get_or-set_same, get_or-set_other}
+use Rattle.std.proofs.Common.{◌≡◌, ℕ, ◌+◌, ◌<◌, Bool, true, false, cond, not, eqb, List, [], ◌∷◌, ◌++◌, length, get_or, take, drop, set, Some, None, Option, sym, refl, ap, ◌∙◌, inl, inr, arith}
+use Rattle.std.proofs.lemmas.List.{append_assoc, drop_more, drop-drop, length-set, length-take, get_or-set_same, get_or-set_other}
 use Rattle.std.proofs.lemmas.Bool.{true≢false, false≢true, both_ways, cases_Bool, cond-true, cond-false, or_parts, or_cases, or_left, eq-eqb, eqb-true}
 use Rattle.std.specs.Option.{option_eq}
 use Rattle.store.specs.declared.kind.Kind.{Kind}
 use Rattle.store.specs.Key.{slot}
 use Rattle.journal.specs.Changes.{Change, of_key, puts, mentioned, live, Inside}
 use Rattle.journal.specs.Entry.{no_change, slot_of, MovedDown}
-use Rattle.journal.specs.Index.{noted, latest_from, latest, Knows, Clearing}
+use Rattle.journal.specs.Index.{noted, latest_from, latest, Clearing}
 use Rattle.journal.proofs.Folds.{own_key, mentioned_push, same_mentioned}
 use Rattle.journal.proofs.Clears.{lives, live_last, lives_puts}
 use Rattle.journal.proofs.Latest.{latest_unmentioned, latest-mentioned, latest_push, found_later, slot_apart, slot_same, slot_bound}
@@ -64,25 +64,6 @@ dead_tells x rest i o k n d f =
           ]
       | inr t ↦ ap (latest_from (i + 1) rest k n) (cond-false (of_key x k n) (cond (puts x) (Some i) None) o t)
     ]
-
-pub clearing_start : (xs : List Change) (index : List (Option ℕ)) → length index ≡ 1152 → Knows index xs → Clearing xs xs index 0 0
-clearing_start xs index l h = record {
-  front = refl;
-  rest = refl;
-  behind = omega arith;
-  within = omega arith;
-  long = refl;
-  apart = λ j m e. absurd (both_ways false refl e);
-  keys = l;
-  knows = h;
-}
-
-pub clearing_end : (xs ys : List Change) (index : List (Option ℕ)) (k i : ℕ) → length xs ≤ i → Clearing xs ys index k i → (take k ys ≡ live xs) × Knows index (take k ys)
-clearing_end xs ys index k i l c =
-    let e = drop_all i xs l in (
-      sym (c.front ∙ ap (λ zs. take k ys ++ live zs) e ∙ append-nil (take k ys)),
-      λ j m h. c.knows j m h ∙ ap (λ zs. latest_from i zs j m (latest (take k ys) j m)) e,
-    )
 
 -- what is to come begins with the change at place i
 split : (xs ys : List Change) (i : ℕ) → drop i ys ≡ drop i xs → length ys ≡ length xs → i < length xs → (drop i xs ≡ get_or ys i no_change ∷ drop (i + 1) xs) × (drop (i + 1) ys ≡ drop (i + 1) xs)
