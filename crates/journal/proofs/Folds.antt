@@ -2,10 +2,10 @@
 use Rattle.std.proofs.Common.{◌≡◌, ℕ, true, false, cond, ◌&&◌, ◌||◌, eqb, List, [], ◌∷◌, ◌++◌, length, fold, sym, refl, subst, inl, inr, arith}
 use Rattle.std.proofs.lemmas.List.{append-nil, append_assoc, nil_from_length}
 use Rattle.std.proofs.lemmas.List.Sums.{fold_push}
-use Rattle.std.proofs.lemmas.Bool.{true≢false, false≢true, both_ways, cases_Bool, eqb-true, eq-eqb, and_parts, or_parts, ltb-false}
+use Rattle.std.proofs.lemmas.Bool.{true≢false, false≢true, both_ways, cases_Bool, eqb-true, eq-eqb, and_parts, ltb-false}
 use Rattle.std.proofs.lemmas.Bool.Decides.{nat_tests}
 use Rattle.store.specs.declared.kind.Kind.{Kind}
-use Rattle.store.specs.declared.kind.Kind.TheVariants.{Session, Message}
+use Rattle.store.proofs.Rows.{same_kind_lem, same_kind_refl}
 use Rattle.store.specs.Kind.{same_kind}
 use Rattle.journal.specs.Changes.{Change, of_key, puts, changed, replay, mentioned, weight}
 
@@ -17,19 +17,9 @@ by_push {X} P none more xs = go [] xs none
     go done [] h = subst P (sym (append-nil done)) h
     go done (x ∷ rest) h = subst P (append_assoc done (x ∷ []) rest) (go (done ++ x ∷ []) rest (more done x h))
 
-same_kind_lem : (j k : Kind) → same_kind j k ≡ true → j ≡ k
-same_kind_lem Session Session e = refl
-same_kind_lem Session Message e = let z : ◌≡◌ {A = ℕ} 0 1 = cc in absurd (omega arith)
-same_kind_lem Message Session e = let z : ◌≡◌ {A = ℕ} 0 1 = cc in absurd (omega arith)
-same_kind_lem Message Message e = refl
-
-pub own_kind : (k : Kind) → same_kind k k ≡ true
-own_kind Session = refl
-own_kind Message = refl
-
 -- a change is of its own key
 pub own_key : (c : Change) → of_key c c.kind c.number ≡ true
-own_key c = simp (own_kind c.kind, eq-eqb c.number c.number refl)
+own_key c = simp (same_kind_refl c.kind, eq-eqb c.number c.number refl)
 
 -- what holds at a change's key holds at each key that the change is of
 pub at_key : (P : Kind → ℕ → Type 0) (c : Change) (k : Kind) (n : ℕ) → of_key c k n ≡ true → P c.kind c.number → P k n
@@ -74,10 +64,6 @@ mentioned_push [] c k n = elim (of_key c k n) as (λ t. (t || false) ≡ t) [ tr
 mentioned_push (x ∷ cs) c k n =
     elim (of_key x k n) as (λ t. (t || mentioned (cs ++ c ∷ []) k n) ≡ ((t || mentioned cs k n) || of_key c k n))
     [ true ↦ refl | false ↦ mentioned_push cs c k n ]
-
--- the first change says nothing of another key
-pub skipped : (c : Change) (cs : List Change) (k : Kind) (n : ℕ) → mentioned (c ∷ cs) k n ≡ false → mentioned cs k n ≡ false
-skipped c cs k n e = (or_parts (of_key c k n) (mentioned cs k n) e).1
 
 -- a change that does not put a row drops it
 pub no_row : (c : Change) → puts c ≡ false → c.row ≡ []

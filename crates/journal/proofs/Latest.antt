@@ -1,22 +1,16 @@
 -- Where the latest change of a key stands.
-use Rattle.std.proofs.Common.{◌≡◌, ℕ, zero, suc, ◌+◌, ◌<◌, ◌≤◌, Bool, true, false, cond, ◌&&◌, ◌||◌, eqb, List, [], ◌∷◌, ◌++◌, length, get_or, set, Some, None, Option, sym, refl, ap, ◌∙◌, subst, inl, inr, arith}
+use Rattle.std.proofs.Common.{◌≡◌, ℕ, ◌+◌, ◌<◌, ◌≤◌, Bool, true, false, cond, ◌&&◌, ◌||◌, eqb, List, [], ◌∷◌, ◌++◌, length, get_or, set, Some, None, Option, sym, refl, ap, ◌∙◌, subst, inl, inr, arith}
 use Rattle.std.proofs.lemmas.List.{get_or_append_left, get_or_push, get_or-set_same, get_or-set_other, length_push}
 use Rattle.std.proofs.lemmas.Bool.{true≢false, false≢true, both_ways, cases_Bool, cond-true, cond-false, ltb-true, eqb-false}
 use Rattle.store.specs.declared.kind.Kind.{Kind}
 use Rattle.store.specs.declared.kind.Kind.TheVariants.{Session, Message}
 use Rattle.store.specs.Kind.{same_kind}
 use Rattle.store.specs.Making.{made_limit}
-use Rattle.journal.specs.Key.{slot}
+use Rattle.store.specs.Key.{slot}
 use Rattle.journal.specs.Changes.{Change, of_key, puts, replay, mentioned, Inside}
 use Rattle.journal.specs.Entry.{no_change, slot_of}
 use Rattle.journal.specs.Index.{noted, latest_from, latest, Knows}
 use Rattle.journal.proofs.Folds.{by_push, at_key, replay_push, no_row}
-
-pub none_push : (xs : List (Option ℕ)) (i : ℕ) → ((j : ℕ) → get_or xs j None ≡ None) → get_or (xs ++ None ∷ []) i None ≡ None
-none_push [] zero h = refl
-none_push [] (suc i) h = refl
-none_push (x ∷ xs) zero h = h 0
-none_push (x ∷ xs) (suc i) h = none_push xs i (λ j. h (suc j))
 
 -- changes that do not speak of a key tell nothing new of it
 pub latest_unmentioned : (p : ℕ) (cs : List Change) (k : Kind) (n : ℕ) (o : Option ℕ) → mentioned cs k n ≡ false → latest_from p cs k n o ≡ o

@@ -1,5 +1,5 @@
 pub mod Folds
-pub mod Places
+pub mod Written
 pub mod Clears
 pub mod Standing
 pub mod Latest

@@ -1,24 +1,25 @@
 -- What a log's index finds, and what a log keeps after one change more.
-use Rattle.std.proofs.Common.{◌≡◌, ℕ, ◌+◌, ◌<◌, Bool, true, false, cond, not, eqb, ltb, List, [], ◌∷◌, ◌++◌, length, get_or, set, is_some, Some, None, vec_items, vec_len, Option, Vec, sym, ap, ◌∙◌, subst, arith}
+use Rattle.std.proofs.Common.{◌≡◌, ℕ, ◌+◌, ◌<◌, Bool, true, false, cond, not, eqb, ltb, List, [], ◌∷◌, ◌++◌, length, get_or, set, is_some, Some, None, vec_len, Option, Vec, sym, ap, ◌∙◌, subst, arith}
 use Rattle.std.proofs.lemmas.List.{get_or-take}
 use Rattle.std.proofs.lemmas.Bool.{true≢false, false≢true, eq-eqb, ne_eqb}
 use Rattle.std.specs.declared.alloc.Global.{Global}
 use Rattle.journal.specs.declared.entry.Entry.{Entry}
-use Rattle.journal.specs.declared.key.Key.{Key}
+use Rattle.store.specs.declared.key.Key.{Key}
+use Rattle.journal.specs.declared.index.Index.{Index}
 use Rattle.journal.specs.declared.log.Log.{Log}
-use Rattle.journal.specs.Key.{slot}
-use Rattle.journal.specs.Changes.{Change, puts, replay, live, appended}
-use Rattle.journal.specs.Entry.{change_of, written, kept, no_change, slot_of}
+use Rattle.store.specs.Key.{slot}
+use Rattle.journal.specs.Changes.{Change, replay}
+use Rattle.journal.specs.Entry.{change_of, written, kept, no_change}
 use Rattle.journal.specs.Log.{logged, places_of}
-use Rattle.journal.proofs.Places.{length-kept, kept_more}
-use Rattle.journal.specs.Index.{Knows}
+use Rattle.journal.proofs.Written.{length-kept, kept_more}
+use Rattle.journal.specs.Index.{pointers, Knows}
 use Rattle.journal.proofs.Latest.{Tells, tells, knows_push}
 
 -- what is found at a key's slot tells of the key's row
-pub found_tells : (l : Log) (key : Key) (s : ℕ) (o : Option ℕ) → s ≡ slot key.kind key.number → o ≡ get_or (vec_items l.index) s None → Tells (logged l) o (replay (logged l) key.kind key.number)
-found_tells l key s o e f =
+pub found_tells : (l : Log) (key : Key) (o : Option ℕ) → o ≡ get_or (pointers l.places.index) (slot key.kind key.number) None → Tells (logged l) o (replay (logged l) key.kind key.number)
+found_tells l key o f =
     subst (λ x. Tells (logged l) x (replay (logged l) key.kind key.number))
-    (sym (f ∙ ap (λ i. get_or (vec_items l.index) i None) e ∙ l.knows key.kind key.number key.inside))
+    (sym (f ∙ l.knows key.kind key.number key.inside))
     (tells (logged l) key.kind key.number)
 
 pub none_tells : (cs : List Change) (o : Option ℕ) (row : List ℕ) (r : Bool) → Tells cs o row → is_some o ≡ not r → r ≡ eqb (length row) 0
@@ -28,26 +29,20 @@ none_tells cs (Some p) row true h e = absurd (true≢false e)
 none_tells cs (Some p) row false h e = sym (ne_eqb (length row) 0 (λ q. omega (arith, h.2)))
 
 pub length-logged : (l : Log) → length (logged l) ≡ l.taken
-length-logged l = length-kept l.entries l.taken l.within
+length-logged l = length-kept l.places.entries l.taken l.within
 
 -- the change at the place that was found
-pub found_row : (l : Log) (p : ℕ) (row : List ℕ) → Tells (logged l) (Some p) row → (p < places_of l) × ((get_or (written l.entries) p no_change).row ≡ row)
+pub found_row : (l : Log) (p : ℕ) (row : List ℕ) → Tells (logged l) (Some p) row → (p < places_of l) × ((get_or (written l.places.entries) p no_change).row ≡ row)
 found_row l p row t =
     let h : p < l.taken = omega (arith, t.0, length-logged l) in (
       omega (arith, l.within),
-      ap (λ (x : Change). x.row) (sym (get_or-take l.taken (written l.entries) p no_change h)) ∙ t.1,
+      ap (λ (x : Change). x.row) (sym (get_or-take l.taken (written l.places.entries) p no_change h)) ∙ t.1,
     )
 
--- one change more, written where there was room for it
-pub appended-kept : (l : Log) (v w : Vec Entry Global) (p : ℕ) (c : Change) → p < vec_len v → written w ≡ set (written v) p c → kept v p ≡ cond (ltb l.taken (places_of l)) (logged l) (live (logged l)) → kept w (p + 1) ≡ appended (places_of l) (logged l) c
-appended-kept l v w p c h e f =
-    kept_more v w p c h e ∙ ap (λ cs. cs ++ c ∷ []) (f ∙ ap (λ n. cond (ltb n (places_of l)) (logged l) (live (logged l))) (sym (length-logged l)))
-
 -- the index knows of it once it has been told
-pub appended_knows : (v w : Vec Entry Global) (index after : Vec (Option ℕ) Global) (key : Key) (row : List ℕ) (p : ℕ) → p < vec_len v → vec_len index ≡ 1152 → Knows (vec_items index) (kept v p) → written w ≡ set (written v) p (change_of key row) → {s : ℕ} {o : Option ℕ} → vec_items after ≡ set (vec_items index) s o → s ≡ slot key.kind key.number → o ≡ cond (ltb 0 (length row)) (Some p) None → Knows (vec_items after) (kept w (p + 1))
-appended_knows v w index after key row p l n h e {s} {o} f a b =
+pub appended_knows : (v w : Vec Entry Global) (index : Index) (after : List (Option ℕ)) (key : Key) (row : List ℕ) (p : ℕ) → p < vec_len v → Knows (pointers index) (kept v p) → written w ≡ set (written v) p (change_of key row) → after ≡ set (pointers index) (slot key.kind key.number) (cond (ltb 0 (length row)) (Some p) None) → Knows after (kept w (p + 1))
+appended_knows v w index after key row p l h e f =
     let c = change_of key row in
-    let g : vec_items after ≡ set (vec_items index) (slot_of c) (cond (puts c) (Some p) None) = f ∙ ap (λ i. set (vec_items index) i o) a ∙ ap (set (vec_items index) (slot_of c)) b in
-    subst (λ cs. Knows (vec_items after) cs) (sym (kept_more v w p c l e))
-    (subst (λ xs. Knows xs (kept v p ++ c ∷ [])) (sym g)
-    (knows_push (vec_items index) (kept v p) c p (sym index.ok.0 ∙ n) key.inside (sym (length-kept v p (omega arith))) h))
+    subst (λ cs. Knows after cs) (sym (kept_more v w p c l e))
+    (subst (λ xs. Knows xs (kept v p ++ c ∷ [])) (sym f)
+    (knows_push (pointers index) (kept v p) c p (sym index.slots.ok.0 ∙ index.keys) key.inside (sym (length-kept v p (omega arith))) h))

@@ -1,13 +1,12 @@
 -- How many rows stand, and that as many changes are live.
-use Rattle.std.proofs.Common.{◌≡◌, ℕ, zero, suc, ◌+◌, ◌*◌, ◌<◌, ◌≤◌, cond, eqb, ltb, List, [], ◌∷◌, ◌++◌, length, sym, refl, ap, inl, inr, arith}
+use Rattle.std.proofs.Common.{◌≡◌, ℕ, zero, suc, ◌+◌, ◌<◌, cond, eqb, List, [], ◌∷◌, ◌++◌, length, sym, refl, ap, inl, inr, arith}
 use Rattle.std.specs.List.{AllByRecursion}
-use Rattle.std.proofs.lemmas.List.{length_push}
-use Rattle.std.proofs.lemmas.Bool.{cases_eq, cond_both, ltb-true, le-ltb, cond-true, cond-false, ne_eqb, eq-eqb}
+use Rattle.std.proofs.lemmas.Bool.{cases_eq, cond-true, cond-false, ne_eqb, eq-eqb}
 use Rattle.store.specs.declared.kind.Kind.{Kind}
 use Rattle.store.specs.declared.kind.Kind.TheVariants.{Session, Message}
 use Rattle.store.specs.Disk.{with_row}
 use Rattle.store.specs.Making.{made_limit}
-use Rattle.journal.specs.Changes.{Change, changed, replay, live, weight, standing_below, standing, Inside, appended, RoomLeft, ClearingKeeps}
+use Rattle.journal.specs.Changes.{Change, changed, replay, live, weight, standing_below, standing, Inside, ClearingKeeps}
 use Rattle.journal.proofs.Folds.{by_push, replay_push}
 use Rattle.journal.proofs.Clears.{replay-live, live_again, count_live}
 
@@ -67,10 +66,3 @@ live-standing =
 
 pub clearing : (cs : List Change) → ClearingKeeps cs
 clearing cs = record { rows = λ k n. ap (λ f. f k n) (replay-live cs); again = live_again cs; count = live-standing cs }
-
--- where dead changes are cleared, at most as many are left as rows stand
-pub room_left : (n : ℕ) (cs : List Change) (c : Change) → length (live cs) ≤ n → length cs ≤ 2 * n + 1 → RoomLeft n cs c
-room_left n cs c h l =
-    let fits : length (appended (2 * n + 1) cs c) ≤ 2 * n + 1 = cond_both (ltb (length cs) (2 * n + 1)) cs (live cs) (λ zs. length (zs ++ c ∷ []) ≤ 2 * n + 1) (λ t. omega (arith, length_push cs c, ltb-true (length cs) (2 * n + 1) t)) (λ t. omega (arith, length_push (live cs) c)) in
-    let spare : 2 * n + 1 ≤ length cs → length (appended (2 * n + 1) cs c) + n ≤ 2 * n + 1 = λ m. rw (le-ltb (length cs) (2 * n + 1) m) (omega (arith, length_push (live cs) c)) in
-    record { fits = fits; spare = spare }

@@ -1,12 +1,13 @@
 -- A clearing, change by change.
-use Rattle.std.proofs.Common.{◌≡◌, ℕ, ◌+◌, ◌<◌, ◌≤◌, Bool, true, false, cond, List, [], ◌∷◌, ◌++◌, length, get_or, take, drop, set, Some, None, Option, sym, refl, ap, ◌∙◌, inl, inr, arith}
-use Rattle.std.proofs.lemmas.List.{append-nil, append_assoc, drop_more, drop-drop, drop_all, length-set, length-take, get_or-set_same, get_or-set_other}
-use Rattle.std.proofs.lemmas.Bool.{false≢true, both_ways, cases_Bool, cond-true, cond-false, or_parts, or_cases, or_left, eq-eqb, eqb-true}
+use Rattle.std.proofs.Common.{◌≡◌, ℕ, ◌+◌, ◌<◌, Bool, true, false, cond, not, eqb, List, [], ◌∷◌, ◌++◌, length, get_or, take, drop, set, Some, None, Option, sym, refl, ap, ◌∙◌, inl, inr, arith}
+use Rattle.std.proofs.lemmas.List.{append_assoc, drop_more, drop-drop, length-set, length-take, get_or-set_same, get_or-set_other}
+use Rattle.std.proofs.lemmas.Bool.{true≢false, false≢true, both_ways, cases_Bool, cond-true, cond-false, or_parts, or_cases, or_left, eq-eqb, eqb-true}
+use Rattle.std.specs.Option.{option_eq}
 use Rattle.store.specs.declared.kind.Kind.{Kind}
-use Rattle.journal.specs.Key.{slot}
+use Rattle.store.specs.Key.{slot}
 use Rattle.journal.specs.Changes.{Change, of_key, puts, mentioned, live, Inside}
 use Rattle.journal.specs.Entry.{no_change, slot_of, MovedDown}
-use Rattle.journal.specs.Index.{noted, latest_from, latest, Knows, Clearing, points_at}
+use Rattle.journal.specs.Index.{noted, latest_from, latest, Clearing}
 use Rattle.journal.proofs.Folds.{own_key, mentioned_push, same_mentioned}
 use Rattle.journal.proofs.Clears.{lives, live_last, lives_puts}
 use Rattle.journal.proofs.Latest.{latest_unmentioned, latest-mentioned, latest_push, found_later, slot_apart, slot_same, slot_bound}
@@ -18,12 +19,14 @@ put_some : (t : Bool) (p : ℕ) → cond t (Some p) None ≡ Some p → t ≡ tr
 put_some true p e = refl
 put_some false p e = absurd (none_some p e)
 
-points_some : (p : ℕ) (o : Option ℕ) → o ≡ Some p → points_at o p ≡ true
-points_some p o e = ap (λ x. points_at x p) e ∙ eq-eqb p p refl
+-- what the test of what was found says
+pub found_here : (o : Option ℕ) (p : ℕ) → false ≡ not (option_eq eqb o (Some p)) → o ≡ Some p
+found_here None p e = absurd (false≢true e)
+found_here (Some q) p e = elim (cases_Bool (eqb q p)) [ inl t ↦ ap Some (eqb-true q p t) | inr f ↦ absurd (false≢true (e ∙ ap not f)) ]
 
-some_points : (p : ℕ) (o : Option ℕ) → points_at o p ≡ true → o ≡ Some p
-some_points p None e = absurd (false≢true e)
-some_points p (Some q) e = ap Some (eqb-true q p e)
+pub found_elsewhere : (o : Option ℕ) (p : ℕ) → true ≡ not (option_eq eqb o (Some p)) → o ≡ Some p → ⊥
+found_elsewhere o p e s =
+    true≢false (e ∙ ap (λ x. not (option_eq eqb x (Some p))) s ∙ ap not (eq-eqb p p refl))
 
 -- the index has the place of a change at its key exactly where the change is live
 live_here : (x : Change) (rest : List Change) (i : ℕ) (o : Option ℕ) → latest_from i (x ∷ rest) x.kind x.number o ≡ Some i → lives x rest ≡ true
@@ -61,25 +64,6 @@ dead_tells x rest i o k n d f =
           ]
       | inr t ↦ ap (latest_from (i + 1) rest k n) (cond-false (of_key x k n) (cond (puts x) (Some i) None) o t)
     ]
-
-pub clearing_start : (xs : List Change) (index : List (Option ℕ)) → length index ≡ 1152 → Knows index xs → Clearing xs xs index 0 0
-clearing_start xs index l h = record {
-  front = refl;
-  rest = refl;
-  behind = omega arith;
-  within = omega arith;
-  long = refl;
-  apart = λ j m e. absurd (both_ways false refl e);
-  keys = l;
-  knows = h;
-}
-
-pub clearing_end : (xs ys : List Change) (index : List (Option ℕ)) (k i : ℕ) → length xs ≤ i → Clearing xs ys index k i → (take k ys ≡ live xs) × Knows index (take k ys)
-clearing_end xs ys index k i l c =
-    let e = drop_all i xs l in (
-      sym (c.front ∙ ap (λ zs. take k ys ++ live zs) e ∙ append-nil (take k ys)),
-      λ j m h. c.knows j m h ∙ ap (λ zs. latest_from i zs j m (latest (take k ys) j m)) e,
-    )
 
 -- what is to come begins with the change at place i
 split : (xs ys : List Change) (i : ℕ) → drop i ys ≡ drop i xs → length ys ≡ length xs → i < length xs → (drop i xs ≡ get_or ys i no_change ∷ drop (i + 1) xs) × (drop (i + 1) ys ≡ drop (i + 1) xs)
@@ -159,10 +143,10 @@ module _ (xs ys : List Change) (index : List (Option ℕ)) (k i : ℕ) (c : Clea
       }
 
   -- one turn of a clearing, where the index does not have the next change's place
-  pub turn_pass : Inside (get_or ys i no_change) → points_at (get_or index (slot_of (get_or ys i no_change)) None) i ≡ false → Clearing xs ys index k (i + 1)
-  turn_pass h e = clearing_pass (dead_here (get_or ys i no_change) (drop (i + 1) xs) i _ (λ q. both_ways _ e (points_some i _ (knows_next h ∙ q))))
+  pub turn_pass : Inside (get_or ys i no_change) → (get_or index (slot_of (get_or ys i no_change)) None ≡ Some i → ⊥) → Clearing xs ys index k (i + 1)
+  turn_pass h e = clearing_pass (dead_here (get_or ys i no_change) (drop (i + 1) xs) i _ (λ q. e (knows_next h ∙ q)))
 
   -- the same where it has
-  pub turn_keep : (zs : List Change) → Inside (get_or ys i no_change) → points_at (get_or index (slot_of (get_or ys i no_change)) None) i ≡ true → MovedDown ys zs k i → Clearing xs zs (set index (slot_of (get_or ys i no_change)) (Some k)) (k + 1) (i + 1)
+  pub turn_keep : (zs : List Change) → Inside (get_or ys i no_change) → get_or index (slot_of (get_or ys i no_change)) None ≡ Some i → MovedDown ys zs k i → Clearing xs zs (set index (slot_of (get_or ys i no_change)) (Some k)) (k + 1) (i + 1)
   turn_keep zs h e v =
-      clearing_keep zs h (live_here (get_or ys i no_change) (drop (i + 1) xs) i _ (sym (knows_next h) ∙ some_points i _ e)) v
+      clearing_keep zs h (live_here (get_or ys i no_change) (drop (i + 1) xs) i _ (sym (knows_next h) ∙ e)) v

@@ -18,7 +18,7 @@ places j = places_of j.log
 
 -- its rows are the replay of its changes
 abbrev pub journal_disk : Journal → Disk
-journal_disk j = record { rows = replay (changes j); limit = made_limit; free = j.free; writes = j.writes }
+journal_disk j = record { rows = replay (changes j); limit = made_limit; free = j.budget.free; writes = j.budget.writes }
 
 -- nothing lies outside what it shows
 abbrev pub outside : Journal → Unit {0}

@@ -3,9 +3,9 @@ use Rattle.std.specs.Prelude.{◌≡◌, ℕ, ◌+◌, List, [], ◌∷◌, ◌+
 use Rattle.std.specs.declared.alloc.Global.{Global}
 use Rattle.store.specs.declared.kind.Kind.TheVariants.{Session}
 use Rattle.store.specs.Row.{held}
-use Rattle.journal.specs.declared.key.Key.{Key}
+use Rattle.store.specs.declared.key.Key.{Key}
 use Rattle.journal.specs.declared.entry.Entry.{Entry}
-use Rattle.journal.specs.Key.{slot}
+use Rattle.store.specs.Key.{slot}
 use Rattle.journal.specs.Changes.{Change, change_to}
 
 -- a row put at a key, or dropped there

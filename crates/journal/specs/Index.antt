@@ -1,9 +1,14 @@
 -- Where the latest change of each key stands among the changes, and how far a clearing has come.
-use Rattle.std.specs.Prelude.{◌≡◌, ℕ, ◌+◌, ◌<◌, ◌≤◌, Bool, true, false, cond, List, [], ◌∷◌, ◌++◌, length, take, drop, Some, None, Option, ◌==◌, slice_index_or}
+use Rattle.std.specs.Prelude.{◌≡◌, ℕ, ◌+◌, ◌<◌, ◌≤◌, true, false, cond, List, [], ◌∷◌, ◌++◌, length, take, drop, Some, None, Option, vec_items, slice_index_or}
 use Rattle.store.specs.declared.kind.Kind.{Kind}
+use Rattle.journal.specs.declared.index.Index.{Index}
 use Rattle.store.specs.Making.{made_limit}
-use Rattle.journal.specs.Key.{slot}
+use Rattle.store.specs.Key.{slot}
 use Rattle.journal.specs.Changes.{Change, of_key, puts, mentioned, live}
+
+-- what it has in each slot
+abbrev pub pointers : Index → List (Option ℕ)
+pointers x = vec_items x.slots
 
 -- what is known of a key once the change at place p is looked at, where o was known before
 abbrev pub noted : ℕ → Change → Kind → ℕ → Option ℕ → Option ℕ
@@ -21,11 +26,6 @@ latest cs k n = latest_from 0 cs k n None
 -- the index has, at each key's slot, the place of the key's latest change
 abbrev pub Knows : List (Option ℕ) → List Change → Type 0
 Knows index cs = (k : Kind) (n : ℕ) → n < made_limit k → slice_index_or index (slot k n) None ≡ latest cs k n
-
--- it is this place that was found
-abbrev pub points_at : Option ℕ → ℕ → Bool
-points_at None p = false
-points_at (Some q) p = q == p
 
 -- a clearing of xs has looked at the first i changes and moved the k live ones among them to the front of ys
 pub record Clearing (xs ys : List Change) (index : List (Option ℕ)) (k i : ℕ) : Type 0 where

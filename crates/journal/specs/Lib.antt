@@ -1,4 +1,3 @@
-pub mod Key
 pub mod Changes
 pub mod Entry
 pub mod Index

@@ -6,8 +6,8 @@ use Rattle.journal.specs.Entry.{kept}
 
 -- its changes, oldest first
 abbrev pub logged : Log → List Change
-logged l = kept l.entries l.taken
+logged l = kept l.places.entries l.taken
 
 -- how many changes it has places for
 abbrev pub places_of : Log → ℕ
-places_of l = vec_len l.entries
+places_of l = vec_len l.places.entries

@@ -25,7 +25,7 @@ each_entry P h (e ∷ es) = (h e, each_entry P h es)
 
 each_change : (P : Change → Type 0) → ((e : Entry) → P (change e)) → (j : Journal) → AllByRecursion P (changes j)
 each_change P h j =
-    All-take P j.log.taken (map change (vec_items j.log.entries)) (each_entry P h (vec_items j.log.entries))
+    All-take P j.log.taken (map change (vec_items j.log.places.entries)) (each_entry P h (vec_items j.log.places.entries))
 
 short_rows : (cs : List Change) (rows : Kind → ℕ → List ℕ) → AllByRecursion Short cs → ((k : Kind) (n : ℕ) → length (rows k n) ≤ 560) → (k : Kind) (n : ℕ) → length (fold changed rows cs k n) ≤ 560
 short_rows [] rows h l = l

@@ -1,5 +1,5 @@
 // A journal as a store. Only its making allocates.
-ghost use Rattle.std.specs.Prelude.{◌≡◌, ◌+◌, ◌*◌, ◌≤◌, true, [], length, IfOk, if◌then◌else◌, MatchOption};
+ghost use Rattle.std.specs.Prelude.{◌≡◌, ◌+◌, ◌*◌, ◌≤◌, [], length, IfOk};
 ghost use Rattle.store.specs.Disk.{put_answer, put_after, drop_answer, drop_after, powered};
 ghost use Rattle.journal.specs.Changes.{standing};
 ghost use Rattle.journal.specs.Disk.{changes, places, journal_disk, outside, put_changes, drop_changes};
@@ -7,25 +7,14 @@ ghost use Rattle.store.specs.Making.{Makes};
 ghost use Rattle.journal.specs.Sound.{journal_sound};
 
 use crate::Journal;
-use crate::key::Key;
 use crate::log::Log;
 use std::alloc::Global;
+use store::budget::Budget;
+use store::key::Key;
 use store::kind::{Kind, Refusal};
-use store::making::{MAX_ROWS, Made, MakeError};
+use store::making::{Made, MakeError};
+use store::row::ops::check_row;
 use store::{ROW_BYTES, Store};
-
-// The rows that are free once a row is put where one was absent or stood, if there is room.
-fn free_after_put(absent: bool, free: u32) -> Option<u32>
-    ensures { MatchOption result ((absent ≡ true) × (free ≡ 0)) (λ f. f + (if absent then 1 else 0) ≡ free) }
-{
-    if !absent {
-        Some(free)
-    } else if free != 0 {
-        Some(free - 1)
-    } else {
-        None
-    }
-}
 
 impl Journal {
     // How many changes it keeps.
@@ -39,7 +28,7 @@ impl Journal {
     // How many changes it has places for: two for each row, standing or free, and one more.
     pub fn places(&self) -> usize
         ensures answer { result ≡ places self.now }
-        ensures rows { result ≡ 2 * (self.now.free + standing (journal_disk self.now).rows) + 1 }
+        ensures rows { result ≡ 2 * (self.now.budget.free + standing (journal_disk self.now).rows) + 1 }
     {
         self.log.places()
     }
@@ -55,13 +44,11 @@ impl Store for Journal {
     ghost sound = { journal_sound };
 
     fn load(&self, kind: Kind, number: u32, buffer: &mut [u8]) -> Result<usize, Refusal> {
-        let Some(key) = Key::of(kind, number) else {
-            return Err(Refusal::Bad);
-        };
+        let key = Key::of(kind, number)?;
         if buffer.len() < ROW_BYTES {
             return Err(Refusal::Bad);
         }
-        Ok(self.log.read(key, buffer))
+        self.log.read(key, buffer)
     }
 
     fn put(&mut self, kind: Kind, number: u32, row: &[u8]) -> Result<(), Refusal>
@@ -71,21 +58,10 @@ impl Store for Journal {
         ensures changes { changes self.new ≡ put_changes result self.old kind number row.now }
         ensures places { places self.new ≡ places self.old }
     {
-        let Some(key) = Key::of(kind, number) else {
-            return Err(Refusal::Bad);
-        };
-        if row.len() == 0 || row.len() > ROW_BYTES {
-            return Err(Refusal::Bad);
-        }
-        if self.writes == 0 {
-            return Err(Refusal::Gone);
-        }
-        let Some(free) = free_after_put(self.log.lacks(key), self.free) else {
-            return Err(Refusal::NoRoom);
-        };
+        let key = Key::of(kind, number)?;
+        check_row(row)?;
+        self.budget.take(self.log.lacks(key))?;
         self.log.append(key, row);
-        self.free = free;
-        self.writes -= 1;
         Ok(())
     }
 
@@ -96,18 +72,13 @@ impl Store for Journal {
         ensures changes { changes self.new ≡ drop_changes result self.old kind number }
         ensures places { places self.new ≡ places self.old }
     {
-        let Some(key) = Key::of(kind, number) else {
-            return Err(Refusal::Bad);
-        };
+        let key = Key::of(kind, number)?;
         if self.log.lacks(key) {
             return Ok(());
         }
-        if self.writes == 0 {
-            return Err(Refusal::Gone);
-        }
+        self.budget.spend()?;
+        self.budget.free += 1;
         self.log.append(key, b"");
-        self.free += 1;
-        self.writes -= 1;
         Ok(())
     }
 
@@ -116,7 +87,7 @@ impl Store for Journal {
     }
 
     fn free(&self) -> u32 {
-        self.free
+        self.budget.free
     }
 
     fn power(&mut self, writes: u32)
@@ -125,7 +96,7 @@ impl Store for Journal {
         ensures changes { changes self.new ≡ changes self.old }
         ensures places { places self.new ≡ places self.old }
     {
-        self.writes = writes;
+        self.budget.writes = writes;
     }
 }
 
@@ -134,14 +105,8 @@ impl Made for Journal {
         ensures answer { Makes journal_disk rows result }
         ensures changes { IfOk result (λ j. (changes j ≡ []) × (places j ≡ 2 * rows + 1)) }
     {
-        if rows > MAX_ROWS {
-            return Err(MakeError::Bad);
-        }
+        let budget = Budget::new(rows)?;
         let log = Log::new(heap, 2 * rows as usize + 1)?;
-        Ok(Journal {
-            log,
-            free: rows,
-            writes: 0,
-        })
+        Ok(Journal { log, budget })
     }
 }

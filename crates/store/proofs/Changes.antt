@@ -1,6 +1,6 @@
 -- Changes made one after another.
-use Rattle.std.proofs.Common.{◌≡◌, ℕ, ◌+◌, ◌<◌, ◌≤◌, Bool, true, false, cond, List, [], ◌∷◌, ◌++◌, length, get_or, drop, is_ok, vec_items, Decides, fold, sym, refl, ap, ◌∙◌, subst}
-use Rattle.std.proofs.lemmas.List.{append-nil, append_assoc, drop_more, drop_all}
+use Rattle.std.proofs.Common.{◌≡◌, ℕ, ◌≤◌, Bool, true, false, cond, List, [], ◌∷◌, ◌++◌, length, drop, is_ok, vec_items, Decides, fold, sym, refl, ap, ◌∙◌, subst}
+use Rattle.std.proofs.lemmas.List.{append-nil, drop_all}
 use Rattle.store.specs.declared.change.Change.{Change}
 use Rattle.store.specs.declared.change.Change.TheVariants.{Put, Remove}
 use Rattle.store.specs.Disk.{Disk}
@@ -30,20 +30,6 @@ final_folded : (d : Disk) (cs : List Change) → final d cs ≡ fold changed d (
 final_folded d [] = refl
 final_folded d (c ∷ cs) =
     final_folded (after (outcome d c) d c) cs ∙ one_more (is_ok (outcome d c)) d c (done_of cs (outcomes (after (outcome d c) d c) cs))
-
-module _ (d e : Disk) (cs : List Change) (i : ℕ) (c : Change) (at : c ≡ get_or cs i c) (h : i < length cs) (r : Outcome) (p : r ≡ outcome d c) (q : e ≡ after r d c) where
-  left : drop i cs ≡ c ∷ drop (i + 1) cs
-  left = drop_more cs i c h ∙ ap (λ x. x ∷ drop (i + 1) cs) (sym at)
-
-  next : after (outcome d c) d c ≡ e
-  next = ap (λ x. after x d c) (sym p) ∙ sym q
-
-  pub outcomes_more : (os more : List Outcome) → more ≡ os ++ r ∷ [] → more ++ outcomes e (drop (i + 1) cs) ≡ os ++ outcomes d (drop i cs)
-  outcomes_more os more u =
-      ap (λ x. x ++ outcomes e (drop (i + 1) cs)) u ∙ append_assoc os (r ∷ []) (outcomes e (drop (i + 1) cs)) ∙ ap (λ x. os ++ x ∷ outcomes e (drop (i + 1) cs)) p ∙ ap (λ x. os ++ outcome d c ∷ outcomes x (drop (i + 1) cs)) (sym next) ∙ ap (λ x. os ++ outcomes d x) (sym left)
-
-  pub final_more : final e (drop (i + 1) cs) ≡ final d (drop i cs)
-  final_more = ap (λ x. final x (drop (i + 1) cs)) (sym next) ∙ ap (final d) (sym left)
 
 -- nothing is left to do past the end
 pub outcomes-all : (d e : Disk) (cs : List Change) (i : ℕ) → length cs ≤ i → (os : List Outcome) → os ++ outcomes e (drop i cs) ≡ outcomes d cs → os ≡ outcomes d cs

@@ -1,6 +1,6 @@
 // The kinds of rows, and what a store answers when it refuses.
 ghost use Rattle.std.specs.Prelude.{◌≡◌};
-ghost use Rattle.store.specs.Kind.{Decodes, kind_number, kind_of};
+ghost use Rattle.store.specs.Kind.{Decodes, kind_number};
 
 #[derive(Clone, Copy, PartialEq, Eq, Debug)]
 pub enum Kind {
@@ -26,6 +26,15 @@ impl TryFrom<u8> for Kind {
     }
 }
 
+impl Kind {
+    // 0 for sessions, 1 for messages.
+    pub fn number(self) -> u8
+        ensures answer { result ≡ kind_number self }
+    {
+        self as u8
+    }
+}
+
 #[derive(Clone, Copy, PartialEq, Eq, Debug)]
 pub enum Refusal {
     // The key lies outside the limits, the row is too short or too long, or the buffer too short.
@@ -34,27 +43,4 @@ pub enum Refusal {
     Gone,
     // The row is absent and no row is free.
     NoRoom,
-}
-
-impl Kind {
-    // 0 for sessions, 1 for messages.
-    pub fn number(self) -> u8
-        ensures answer { result ≡ kind_number self }
-    {
-        match self {
-            Kind::Session => 0,
-            Kind::Message => 1,
-        }
-    }
-
-    // The kind with this number, if there is one.
-    pub fn from_number(number: u8) -> Option<Kind>
-        ensures answer { result ≡ kind_of number }
-    {
-        match number {
-            0 => Some(Kind::Session),
-            1 => Some(Kind::Message),
-            _ => None,
-        }
-    }
 }

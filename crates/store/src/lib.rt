@@ -5,7 +5,9 @@ ghost use Rattle.std.specs.Prelude.{◌≡◌, ◌≤◌, IfOk};
 ghost use Rattle.std.specs.Borrow.{GName};
 ghost use Rattle.store.specs.Disk.{Disk, Sound, load_answer, load_buffer, put_answer, put_after, drop_answer, drop_after, powered};
 
+pub mod budget;
 pub mod change;
+pub mod key;
 pub mod kind;
 pub mod making;
 pub mod row;
@@ -18,6 +20,7 @@ use kind::{Kind, Refusal};
 pub const ROW_BYTES: usize = 560;
 
 // Rows under a kind and a number. A write is whole or absent, and a refusal alters nothing.
+// A kind and a number stay two plain values: each store has limits of its own, and refuses a bad key itself.
 pub trait Store {
     // The rows, limits, free rows and writes left that this store shows.
     ghost disk: { Self → Disk };

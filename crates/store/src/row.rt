@@ -1,13 +1,12 @@
 // Memory for one row.
-ghost use Rattle.std.specs.Prelude.{◌≡◌, ◌≤◌, vec_len};
+ghost use Rattle.std.specs.Prelude.{◌≤◌, vec_len, vec_capacity};
 
 pub mod ops;
 
-// Up to 560 bytes, in memory that was got when it was made; the first `count` of them are the row.
+// The bytes of a row, in memory for 560 that was got when it was made.
 #[derive(Drop)]
 pub struct RowBuffer {
     bytes: Vec<u8>,
-    count: usize,
-    ghost room: { vec_len bytes ≡ 560 },
-    ghost short: { count ≤ 560 },
+    ghost room: { 560 ≤ vec_capacity bytes },
+    ghost short: { vec_len bytes ≤ 560 },
 }

@@ -1,12 +1,17 @@
 -- What many rows hold.
-use Rattle.std.specs.Prelude.{ℕ, cond, List, map, length, vec_items, sum_by, Vec, ◌==◌}
-use Rattle.std.specs.declared.alloc.Global.{Global}
-use Rattle.store.specs.declared.row.RowBuffer.{RowBuffer}
+use Rattle.std.specs.Prelude.{ℕ, cond, List, [], map, length, vec_items, sum_by, ◌==◌, slice_index_or}
+use Rattle.store.specs.declared.key.Key.{Key}
+use Rattle.store.specs.Key.{slot}
 use Rattle.store.specs.Row.{held}
+use Rattle.table.specs.declared.rows.Rows.{Rows}
 
 -- the bytes of each row, none where no row stands
-abbrev pub contents : Vec RowBuffer Global → List (List ℕ)
-contents v = map held (vec_items v)
+abbrev pub contents : Rows → List (List ℕ)
+contents rows = map held (vec_items rows.places)
+
+-- the row at a key
+abbrev pub row_at : List (List ℕ) → Key → List ℕ
+row_at rows key = slice_index_or rows (slot key.kind key.number) []
 
 -- a row counts where it has bytes
 abbrev pub counts : List ℕ → ℕ

@@ -20,6 +20,6 @@ short_cond false r h = omega arith
 
 pub table_sound : (t : Table) → Sound (table_disk t)
 table_sound t = record {
-  short = λ k n. short_cond _ _ (short_rows (vec_items t.rows) _);
+  short = λ k n. short_cond _ _ (short_rows (vec_items t.rows.places) _);
   inside = λ k n h. cond-false _ _ _ (le-ltb _ _ h);
 }

@@ -1,42 +1,18 @@
 // A table as a store.
-ghost use Rattle.std.specs.Prelude.{◌≡◌, ◌+◌, ◌<◌, ◌≤◌, if◌then◌else◌, MatchOption, nat_eq};
-ghost use Rattle.store.specs.Making.{made_limit};
-ghost use Rattle.table.specs.Disk.{place_of, table_disk};
+ghost use Rattle.table.specs.Disk.{table_disk};
 ghost use Rattle.table.specs.Sound.{table_sound};
 
 use crate::Table;
-use crate::rows::{clear_at, len_at, make, read_at, write_at};
+use crate::rows::Rows;
 use std::alloc::Global;
+use store::Store;
+use store::budget::Budget;
+use store::key::Key;
 use store::kind::{Kind, Refusal};
-use store::making::{MAX_ROWS, Made, MakeError, SESSIONS};
-use store::{ROW_BYTES, Store};
+use store::making::{Made, MakeError};
+use store::row::ops::check_row;
 
-// The place of a key, none for a bad one.
-fn place(kind: Kind, number: u32) -> Option<usize>
-    ensures answer { MatchOption result (made_limit kind ≤ number) (λ p. (number < made_limit kind) × ((p ≡ place_of kind number) × (p < 1152))) }
-{
-    if number >= kind.made_limit() {
-        return None;
-    }
-    match kind {
-        Kind::Session => Some(number as usize),
-        Kind::Message => Some((SESSIONS + number) as usize),
-    }
-}
-
-// The rows that are free once a row of `len` bytes was written over, if there is one.
-fn free_after(len: usize, free: u32) -> Option<u32>
-    ensures answer { MatchOption result ((len ≡ 0) × (free ≡ 0)) (λ f. f + (if nat_eq len 0 then 1 else 0) ≡ free) }
-{
-    if len != 0 {
-        Some(free)
-    } else if free != 0 {
-        Some(free - 1)
-    } else {
-        None
-    }
-}
-
+// The calls are not one generic code with the journal's: that tells its changes too, so each store would forward them all.
 impl Store for Table {
     ghost disk = { table_disk };
 
@@ -47,47 +23,25 @@ impl Store for Table {
     ghost sound = { table_sound };
 
     fn load(&self, kind: Kind, number: u32, buffer: &mut [u8]) -> Result<usize, Refusal> {
-        let Some(at) = place(kind, number) else {
-            return Err(Refusal::Bad);
-        };
-        match read_at(&self.rows, at, buffer) {
-            Some(len) => Ok(len),
-            None => Err(Refusal::Bad),
-        }
+        let key = Key::of(kind, number)?;
+        self.rows.get(key).read(buffer)
     }
 
     fn put(&mut self, kind: Kind, number: u32, row: &[u8]) -> Result<(), Refusal> {
-        let Some(at) = place(kind, number) else {
-            return Err(Refusal::Bad);
-        };
-        if row.len() == 0 || row.len() > ROW_BYTES {
-            return Err(Refusal::Bad);
-        }
-        if self.writes == 0 {
-            return Err(Refusal::Gone);
-        }
-        let Some(free) = free_after(len_at(&self.rows, at), self.free) else {
-            return Err(Refusal::NoRoom);
-        };
-        self.free = free;
-        self.writes -= 1;
-        write_at(&mut self.rows, at, row);
-        Ok(())
+        let key = Key::of(kind, number)?;
+        check_row(row)?;
+        self.budget.take(self.rows.get(key).is_empty())?;
+        self.rows.write(key, row)
     }
 
     fn drop_row(&mut self, kind: Kind, number: u32) -> Result<(), Refusal> {
-        let Some(at) = place(kind, number) else {
-            return Err(Refusal::Bad);
-        };
-        if len_at(&self.rows, at) == 0 {
+        let key = Key::of(kind, number)?;
+        if self.rows.get(key).is_empty() {
             return Ok(());
         }
-        if self.writes == 0 {
-            return Err(Refusal::Gone);
-        }
-        clear_at(&mut self.rows, at);
-        self.free += 1;
-        self.writes -= 1;
+        self.budget.spend()?;
+        self.budget.free += 1;
+        self.rows.clear(key);
         Ok(())
     }
 
@@ -96,24 +50,18 @@ impl Store for Table {
     }
 
     fn free(&self) -> u32 {
-        self.free
+        self.budget.free
     }
 
     fn power(&mut self, writes: u32) {
-        self.writes = writes;
+        self.budget.writes = writes;
     }
 }
 
 impl Made for Table {
     fn new(heap: Global, rows: u32) -> Result<Table, MakeError> {
-        if rows > MAX_ROWS {
-            return Err(MakeError::Bad);
-        }
-        let places = make(heap, MAX_ROWS as usize)?;
-        Ok(Table {
-            rows: places,
-            free: rows,
-            writes: 0,
-        })
+        let budget = Budget::new(rows)?;
+        let rows = Rows::new(heap)?;
+        Ok(Table { rows, budget })
     }
 }

@@ -1,32 +1,27 @@
-use Rattle.std.proofs.Common.{◌≡◌, false, not, eqb, [], length, sym, refl, ap, ◌∙◌, arith}
-use Rattle.std.proofs.lemmas.Bool.{cond-true, cond-false}
+use Rattle.std.proofs.Common.{◌≡◌, ◌+◌, false, eqb, [], length, sym, refl, ap, ◌∙◌, arith}
+use Rattle.std.proofs.lemmas.Bool.{cond-false}
+use Rattle.store.proofs.Rows.{same_disk}
 use Rattle.store.specs.Disk.{absent, with_row}
-use Rattle.store.specs.Making.{made_limit}
-use Rattle.journal.specs.Changes.{change_to, replay, live, appended}
+use Rattle.journal.specs.Changes.{replay, live}
 use Rattle.journal.specs.Entry.{change_of}
 use Rattle.journal.specs.Disk.{changes, places, journal_disk}
-use Rattle.journal.proofs.Journals.{replay-appended, of_key, inside_key, drop-done, count_drop, same_disk}
+use Rattle.journal.proofs.Journals.{replay-appended, of_key, count_drop}
 use Rattle.journal.proofs.disk.JournalStore.drop_row.Goals as goal
 
-pub invariant_of-self : goal.invariant_of-self
-invariant_of-self c =
+pub invariant_of-self-2 : goal.invariant_of-self-2
+invariant_of-self-2 c =
     let j = c.args.self.now in
-    let n = count_drop (places j) (changes j) (change_of c.in-Some.key []) j.free (sym c.lacks.ensures ∙ c.if-lacks.false) refl in
+    let n = count_drop (places j) (changes j) (change_of c.in_ok-key.key []) j.budget.free (sym c.lacks.ensures ∙ c.if-lacks.false) refl in
     let e = ap (λ cs. length (live cs)) c.append.ensures.after in
-    record { rows = omega (arith, n, e, j.rows); room = omega (arith, n, e, j.room, c.append.ensures.places) }
+    let f = ap (λ b. b.free) c.in_ok-spend.ensures.after in
+    record { rows = omega (arith, n, e, f, j.rows); room = omega (arith, n, e, f, j.room, c.append.ensures.places) }
 
-pub returns : goal.returns
-returns c =
+pub returns-clause-after : goal.returns-clause-after
+returns-clause-after c =
     let j = c.args.self.now in
-    let k = c.args.kind in
-    let n = c.args.number in
-    let key = c.in-Some.key in
-    let same = c.in-Some.ensures in
-    let stood : absent (journal_disk j) k n ≡ false = sym (c.lacks.ensures ∙ of_key (λ k n. eqb (length (replay (changes j) k n)) 0) key k n same) ∙ c.if-lacks.false in
-    record {
-      answer = drop-done (journal_disk j) k n (inside_key made_limit key k n same key.inside) stood c.if-self-eq0.false;
-      after = same_disk _ _ (ap replay c.append.ensures.after ∙ replay-appended (places j) (changes j) (change_of key []) ∙ of_key (λ k n. with_row (replay (changes j)) k n []) key k n same) refl refl refl ∙ sym (cond-false _ _ _ stood);
-      rest = refl;
-      changes = c.append.ensures.after ∙ of_key (λ k n. appended (places j) (changes j) (change_to k n [])) key k n same ∙ sym (cond-true _ _ _ (ap not stood));
-      places = c.append.ensures.places;
-    }
+    let key = c.in_ok-key.key in
+    let same = c.in_ok-key.ensures.answer in
+    let stood : absent (journal_disk j) c.args.kind c.args.number ≡ false = sym (c.lacks.ensures ∙ of_key (λ k n. eqb (length (replay (changes j) k n)) 0) key _ _ same) ∙ c.if-lacks.false in
+    let rows = ap replay c.append.ensures.after ∙ replay-appended (places j) (changes j) (change_of key []) ∙ of_key (λ k n. with_row (replay (changes j)) k n []) key _ _ same in
+    same_disk _ _ (λ k n. ap (λ f. f k n) rows) (λ _. refl) (ap (λ b. b.free + 1) c.in_ok-spend.ensures.after) (ap (λ b. b.writes) c.in_ok-spend.ensures.after)
+    ∙ sym (cond-false _ _ _ stood)

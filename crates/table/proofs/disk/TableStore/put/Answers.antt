@@ -1,35 +1,18 @@
-use Rattle.std.proofs.Common.{refl, ◌∙◌, arith}
+use Rattle.std.proofs.Common.{◌≡◌, true, eqb, length, is_ok, sym, ap, ◌∙◌}
+use Rattle.std.proofs.lemmas.Bool.{cond-true}
+use Rattle.store.proofs.Rows.{row_fits}
+use Rattle.store.specs.Disk.{stands}
 use Rattle.table.specs.Rows.{contents}
+use Rattle.table.specs.Disk.{table_disk}
 use Rattle.table.proofs.Among.{length-contents}
-use Rattle.table.proofs.Places.{free_left, counted-put, table_put, put_disk}
+use Rattle.table.proofs.Places.{put_disk}
 use Rattle.table.proofs.disk.TableStore.put.Goals as goal
 
-pub invariant_of-self : goal.invariant_of-self
-invariant_of-self c =
+pub returns-clause-after : goal.returns-clause-after
+returns-clause-after c =
     let t = c.args.self.now in
-    let p = c.in-Some.ensures.answer in
-    let w = c.write_at.ensures in
-    let left = c.in-Some-free_after.free in
-    let at = c.in-Some.at in
-    let f = free_left (contents t.rows) at c.len_at.result left t.free c.len_at.ensures.answer c.in-Some-free_after.ensures.answer in
-    record {
-      places = w.len ∙ t.places;
-      counted = counted-put (contents t.rows) (contents c.write_at.new.rows) at c.args.row.now t.free left w.after (omega (arith, p.1.1, length-contents t.rows, t.places)) (omega arith) f t.counted;
-    }
-
-pub returns : goal.returns
-returns c =
-    let t = c.args.self.now in
-    let p = c.in-Some.ensures.answer in
-    let w = c.write_at.ensures in
-    let left = c.in-Some-free_after.free in
-    let at = c.in-Some.at in
-    let k = c.args.kind in
-    let n = c.args.number in
     let row = c.args.row.now in
-    let f = free_left (contents t.rows) at c.len_at.result left t.free c.len_at.ensures.answer c.in-Some-free_after.ensures.answer in
-    record {
-      answer = table_put (contents t.rows) t.free t.writes k n at p.0 p.1.0 row left (omega arith) c.if-row-gt-ROW_BYTES.false c.if-self-eq0.false f;
-      after = put_disk (contents t.rows) t.free t.writes k n at p.0 p.1.0 (contents c.write_at.new.rows) row left (length-contents t.rows ∙ t.places) w.after f;
-      rest = refl;
-    }
+    let same = c.in_ok-key.ensures.answer in
+    let done : is_ok c.write.result ≡ true = ap is_ok (c.write.ensures.answer ∙ row_fits row _ c.in_ok-check_row.ensures.answer) in
+    put_disk (contents t.rows) (contents c.write.new.self) t.budget c.take.new.self c.in_ok-key.key row c.is_empty.result (length-contents t.rows) (c.write.ensures.after ∙ cond-true _ _ _ done) (c.is_empty.ensures.answer ∙ ap (λ r. eqb (length r) 0) c.get.ensures.answer) c.in_ok-take.ensures.after
+    ∙ (λ i. stands (table_disk t) (same.0 i) (same.1 i) row) ∙ sym (cond-true _ _ _ done)
