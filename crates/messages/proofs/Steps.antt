@@ -11,29 +11,30 @@ use Rattle.messages.specs.View.{message_of, owed, owed_rest, rest_of}
 use Rattle.messages.specs.declared.view.MessageRow.{MessageRow}
 use Rattle.std.specs.Option.{option_map}
 use Rattle.std.specs.Bool.{then_some}
-use Rattle.messages.proofs.Targets.{none_some, some_inj, targets_back}
+use Rattle.messages.proofs.Targets.{targets_back}
+use Rattle.std.proofs.lemmas.Option.{none-some, same_Some}
 
 -- ---- what was read is what is owed
 
 front-owed : (t : Option Target) (o : Option (List (Option Target) × List ℕ)) (ts : List (Option Target)) (p : List (Option Target) × List ℕ) → ((q : List (Option Target) × List ℕ) → o ≡ Some q → ts ≡ q.0) → add_front t o ≡ Some p → t ∷ ts ≡ p.0
-front-owed t None ts p ih e = absurd (none_some p e)
-front-owed t (Some q) ts p ih e = ap (λ l. t ∷ l) (ih q refl) ∙ ap (λ (r : List (Option Target) × List ℕ). r.0) (some_inj {A = List (Option Target) × List ℕ} (t ∷ q.0, q.1) p e)
+front-owed t None ts p ih e = absurd (none-some p e)
+front-owed t (Some q) ts p ih e = ap (λ l. t ∷ l) (ih q refl) ∙ ap (λ (r : List (Option Target) × List ℕ). r.0) (same_Some {A = List (Option Target) × List ℕ} (t ∷ q.0, q.1) p e)
 
 owed_by : (k m : ℕ) (bs : List ℕ) (p : List (Option Target) × List ℕ) (v : Bool) (o : Option (Target × List ℕ)) → ((m : ℕ) (bs : List ℕ) (p : List (Option Target) × List ℕ) → targets_in k m bs ≡ Some p → owed k m bs ≡ p.0) → cond v (add_front None (targets_in k (m / 2) bs)) (bind o (λ p. add_front (Some p.0) (targets_in k (m / 2) p.1))) ≡ Some p → cond v (None ∷ owed k (m / 2) bs) (owed_rest (owed k (m / 2)) o) ≡ p.0
 owed_by k m bs p true o ih e = front-owed None (targets_in k (m / 2) bs) (owed k (m / 2) bs) p (ih (m / 2) bs) e
-owed_by k m bs p false None ih e = absurd (none_some p e)
+owed_by k m bs p false None ih e = absurd (none-some p e)
 owed_by k m bs p false (Some t) ih e = front-owed (Some t.0) (targets_in k (m / 2) t.1) (owed k (m / 2) t.1) p (ih (m / 2) t.1) e
 
 pub owed_back : (k m : ℕ) (bs : List ℕ) (p : List (Option Target) × List ℕ) → targets_in k m bs ≡ Some p → owed k m bs ≡ p.0
 unfolding targets_in owed
-owed_back zero m bs p e = ap (λ (r : List (Option Target) × List ℕ). r.0) (some_inj {A = List (Option Target) × List ℕ} ([], bs) p e)
+owed_back zero m bs p e = ap (λ (r : List (Option Target) × List ℕ). r.0) (same_Some {A = List (Option Target) × List ℕ} ([], bs) p e)
 owed_back (suc k) m bs p e = owed_by k m bs p (eqb (m % 2) 0) (target_in bs) (owed_back k) e
 
 rest_some : (k m : ℕ) (bs after : List ℕ) (o : Option (List (Option Target) × List ℕ)) → targets_in k m bs ≡ o → Some after ≡ rest_of o → targets_in k m bs ≡ Some (owed k m bs, after)
-rest_some k m bs after None e f = absurd (none_some after (sym f))
+rest_some k m bs after None e f = absurd (none-some after (sym f))
 rest_some k m bs after (Some p) e f =
     let a = owed_back k m bs p e in
-    let b = some_inj after p.1 f in
+    let b = same_Some after p.1 f in
     e ∙ (λ i. Some (sym a i, sym b i))
 
 pub targets_owed : (k m : ℕ) (bs after : List ℕ) → Some after ≡ rest_of (targets_in k m bs) → targets_in k m bs ≡ Some (owed k m bs, after)
@@ -50,13 +51,6 @@ at_origin r o e = ap (λ x. bind x (from_origin r.0)) e
 
 pub at_map : (rank : ℕ) (p : Option Origin × List ℕ) (o : Option (ℕ × List ℕ)) → o ≡ number_in p.1 → bind o (from_map rank p.0) ≡ from_origin rank p
 at_map rank p o e = ap (λ x. bind x (from_map rank p.0)) e
-
-none_rest : (o : Option (List (Option Target) × List ℕ)) → None ≡ rest_of o → None ≡ o
-none_rest None e = refl
-none_rest (Some p) e = absurd (none_some p.1 e)
-
-pub at_targets_none : (rank : ℕ) (origin : Option Origin) (m : ℕ) (tail : List ℕ) → None ≡ rest_of (targets_in 32 m tail) → None ≡ from_map rank origin (m, tail)
-at_targets_none rank origin m tail e = ap (λ x. bind x (from_targets rank origin)) (none_rest (targets_in 32 m tail) e)
 
 pub at_targets : (rank : ℕ) (origin : Option Origin) (m : ℕ) (tail after : List ℕ) → Some after ≡ rest_of (targets_in 32 m tail) → from_targets rank origin (owed 32 m tail, after) ≡ from_map rank origin (m, tail)
 at_targets rank origin m tail after e = ap (λ x. bind x (from_targets rank origin)) (sym (targets_owed 32 m tail after e))
@@ -137,16 +131,8 @@ owed_bad n m bs s z e = ap (λ l. get_or l s None) (owed_odd n m bs None z e) �
 
 -- ---- past the targets
 
-pub rest_front : (t : Option Target) (o : Option (List (Option Target) × List ℕ)) → rest_of (add_front t o) ≡ rest_of o
-rest_front t None = refl
-rest_front t (Some p) = refl
-
 fewer : (i : ℕ) → i < 32 → 32 - i ≡ suc (32 - (i + 1))
 fewer i h = omega arith
-
-pub behind_more : (i m m' : ℕ) (bs bs' : List ℕ) (t : Option Target) (r : Option (List ℕ)) → i < 32 → ((n : ℕ) → targets_in (suc n) m bs ≡ add_front t (targets_in n m' bs')) → rest_of (targets_in (32 - i) m bs) ≡ r → rest_of (targets_in (32 - (i + 1)) m' bs') ≡ r
-behind_more i m m' bs bs' t r h e f =
-    sym (rest_front t (targets_in (32 - (i + 1)) m' bs')) ∙ ap rest_of (sym (e (32 - (i + 1)))) ∙ ap (λ k. rest_of (targets_in k m bs)) (sym (fewer i h)) ∙ f
 
 pub behind_bad : (i m : ℕ) (bs : List ℕ) (r : Option (List ℕ)) → i < 32 → ((n : ℕ) → targets_in (suc n) m bs ≡ None) → rest_of (targets_in (32 - i) m bs) ≡ r → None ≡ r
 behind_bad i m bs r h e f = ap rest_of (sym (e (32 - (i + 1)))) ∙ ap (λ k. rest_of (targets_in k m bs)) (sym (fewer i h)) ∙ f

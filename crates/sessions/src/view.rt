@@ -99,11 +99,7 @@ impl<'a> Filters<'a> {
         ensures answer { option_map subscribed result ≡ place (filters_of self.now) i }
     {
         let (first, rest) = self.split_first()?;
-        if i == 0 {
-            Some(first)
-        } else {
-            rest.get(i - 1)
-        }
+        if i == 0 { Some(first) } else { rest.get(i - 1) }
     }
 
     // The first subscription and those after it.
