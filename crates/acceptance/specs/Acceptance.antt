@@ -1,5 +1,5 @@
 -- Whether the rows of a disk are those of a broker: which verdict comes, and what it says.
-use Rattle.std.specs.Prelude.{◌≡◌, ℕ, ◌<◌, ◌≤◌, Bool, true, false, cond, not, ◌&&◌, ◌||◌, List, is_some, Some, None, Option, ◌==◌, nat_le, nat_lt}
+use Rattle.std.specs.Prelude.{◌≡◌, ℕ, ◌<◌, ◌≤◌, Bool, true, false, cond, not, ◌&&◌, ◌||◌, List, is_some, Some, None, Ok, Err, Option, Result, ◌==◌, nat_le, nat_lt}
 use Rattle.store.specs.Disk.{Disk, absent}
 use Rattle.store.specs.declared.kind.Kind.{Kind}
 use Rattle.store.specs.declared.kind.Kind.TheVariants.{Session as SessionKind, Message as MessageKind}
@@ -9,8 +9,12 @@ use Rattle.messages.specs.declared.parts.Origin.{Origin}
 use Rattle.searches.specs.First.{first_below}
 use Rattle.searches.specs.At.{session_at, message_at}
 use Rattle.searches.specs.Search.{came_from, is_named, is_target, rank_in, session_count, slots}
-use Rattle.acceptance.specs.declared.Verdict.{Verdict}
-use Rattle.acceptance.specs.declared.Verdict.TheVariants.{TooSmall, Refused, Accepted}
+use Rattle.acceptance.specs.declared.Refusal.{Refusal}
+use Rattle.acceptance.specs.declared.Refusal.TheVariants.{TooSmall, BadRow}
+
+-- what was found of a store's rows: those of a broker with so many sessions, or refused
+abbrev pub Verdict : Type 0
+Verdict = Result ℕ Refusal
 
 -- the store has numbers for 32 sessions and 256 messages
 abbrev pub is_large : Disk → Bool
@@ -73,13 +77,13 @@ bad_message d n = not (absent d MessageKind n) && message_offends d n (message_a
 
 -- the verdict on rows, by the first bad session and the first bad message
 abbrev pub judged : Option ℕ → Option ℕ → ℕ → Verdict
-judged (Some n) m count = Refused SessionKind n
-judged None (Some m) count = Refused MessageKind m
-judged None None count = Accepted count
+judged (Some n) m count = Err (BadRow SessionKind n)
+judged None (Some m) count = Err (BadRow MessageKind m)
+judged None None count = Ok count
 
 -- the verdict: too small, else the first bad row, else the number of sessions
 unfoldable pub accepts : Disk → Verdict
-accepts d = cond (is_large d) (judged (first_below (bad_session d) sessions) (first_below (bad_message d) slots) (session_count d)) TooSmall
+accepts d = cond (is_large d) (judged (first_below (bad_session d) sessions) (first_below (bad_message d) slots) (session_count d)) (Err TooSmall)
 
 -- the store has numbers for 32 sessions and 256 messages
 pub record Large (d : Disk) : Type 0 where
@@ -140,11 +144,11 @@ looked MessageKind = slots
 
 -- what a verdict says
 abbrev pub Says : Disk → Verdict → Type 0
-Says d TooSmall = Large d → ⊥
-Says d (Refused k n) = Large d × (n < looked k) × Offends d k n × ((j : Kind) (i : ℕ) → Earlier j i k n → Offends d j i → ⊥)
-Says d (Accepted c) = Large d × Acceptable d × (c ≡ session_count d)
+Says d (Err TooSmall) = Large d → ⊥
+Says d (Err (BadRow k n)) = Large d × (n < looked k) × Offends d k n × ((j : Kind) (i : ℕ) → Earlier j i k n → Offends d j i → ⊥)
+Says d (Ok c) = Large d × Acceptable d × (c ≡ session_count d)
 
 -- every verdict is true, and rows that are a broker's are accepted
 pub record AcceptanceLaw : Type 0 where
   pub says : (d : Disk) → Says d (accepts d)
-  pub taken : (d : Disk) → Large d → Acceptable d → accepts d ≡ Accepted (session_count d)
+  pub taken : (d : Disk) → Large d → Acceptable d → accepts d ≡ Ok (session_count d)

@@ -5,9 +5,8 @@ use Rattle.packets.specs.declared.packet.ReadError.{ReadError}
 use Rattle.packets.specs.declared.packet.ReadError.TheVariants.{Level as OtherLevel, Bad}
 use Rattle.packets.specs.Packet.{Content, connect, connack, publish, puback, pubrec, pubrel, pubcomp, subscribe, suback, unsubscribe, unsuback, pingreq, pingresp, disconnect}
 use Rattle.packets.specs.Reads.{reads}
-use Rattle.acceptance.specs.Acceptance.{accepts}
-use Rattle.acceptance.specs.declared.Verdict.{Verdict}
-use Rattle.acceptance.specs.declared.Verdict.TheVariants.{Accepted, Refused, TooSmall}
+use Rattle.acceptance.specs.Acceptance.{Verdict, accepts}
+use Rattle.acceptance.specs.declared.Refusal.TheVariants.{BadRow as OffendingRow, TooSmall}
 use Rattle.broker.specs.declared.answer.Refusal.TheVariants.{Down, NoSuchLink, WrongState, TooFewNumbers, BadRow, BadPacket, WrongPacket}
 use Rattle.broker.specs.declared.link.Link.{Link}
 use Rattle.broker.specs.declared.link.Link.TheVariants.{Free, Opened, Connected, Rejected}
@@ -31,9 +30,9 @@ pub data Call : Type 0 where
 
 -- restart: the rows are judged; if they are acceptable all links are free, else the broker is down
 abbrev pub restart_plan : Broker → Verdict → Plan
-restart_plan b (Accepted count) = done count [] [] restarted
-restart_plan b TooSmall = refuse TooFewNumbers (stopped b)
-restart_plan b (Refused kind number) = refuse (BadRow kind number) (stopped b)
+restart_plan b (Ok count) = done count [] [] restarted
+restart_plan b (Err TooSmall) = refuse TooFewNumbers (stopped b)
+restart_plan b (Err (OffendingRow kind number)) = refuse (BadRow kind number) (stopped b)
 
 -- open: only a free link
 abbrev pub open_plan : Broker → ℕ → Link → Plan

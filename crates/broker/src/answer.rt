@@ -37,6 +37,7 @@ pub type Answer = Result<u32, Refusal>;
 
 impl Refusal {
     /// Its number.
+    // Told variant by variant, since some carry values and no cast gives their numbers.
     pub fn number(self) -> u8
         ensures answer { result ≡ refusal_number self }
     {
@@ -54,15 +55,15 @@ impl Refusal {
             Refusal::TooFewNumbers => 13,
         }
     }
+}
 
-    /// A write that the store does not take, for whatever reason, is the store gone.
-    pub fn from_store(refusal: StoreRefusal) -> Refusal
-        ensures answer { result ≡ from_store refusal }
-    {
+/// A write that the store does not take, for whatever reason, is the store gone.
+impl From<StoreRefusal> for Refusal {
+    ghost from_gives = { λ refusal r. r ≡ from_store refusal };
+
+    fn from(refusal: StoreRefusal) -> Refusal {
         match refusal {
-            StoreRefusal::Bad => Refusal::StoreGone,
-            StoreRefusal::Gone => Refusal::StoreGone,
-            StoreRefusal::NoRoom => Refusal::StoreGone,
+            StoreRefusal::Bad | StoreRefusal::Gone | StoreRefusal::NoRoom => Refusal::StoreGone,
         }
     }
 }

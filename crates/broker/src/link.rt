@@ -5,9 +5,9 @@ ghost use Rattle.broker.specs.Link.{return_code};
 /// Why a CONNECT was rejected: another protocol level, no client identifier, or no room for a new session.
 #[derive(Clone, Copy, PartialEq, Eq, Debug)]
 pub enum Rejection {
-    Level,
-    Identifier,
-    Full,
+    Level = 1,
+    Identifier = 2,
+    Full = 3,
 }
 
 /// What a link is: free, opened without a CONNECT yet, connected to a session, or rejected with its CONNACK left to hand out.
@@ -24,10 +24,6 @@ impl Rejection {
     pub fn return_code(self) -> u8
         ensures answer { result ≡ return_code self }
     {
-        match self {
-            Rejection::Level => 1,
-            Rejection::Identifier => 2,
-            Rejection::Full => 3,
-        }
+        self as u8
     }
 }

@@ -1,6 +1,7 @@
 // Replies that wait on a link.
 
 /// The return codes of a SUBACK: the first `count` of the bytes.
+// Counted: replies wait by value in a ring, and the broker's calls never allocate.
 #[derive(Clone, Copy)]
 pub struct Codes {
     pub bytes: [u8; 8],

@@ -8,7 +8,8 @@ use Rattle.rows.proofs.Texts.{text_there, text_back}
 use Rattle.messages.specs.declared.parts.Origin.{Origin}
 use Rattle.messages.specs.Target.{bind, lawful_targets, map_of, target_bytes, targets_in}
 use Rattle.messages.specs.Message.{Message, MessageLaw, decode, encode, four_bytes, held, lawful_message, lawful_origin, max_payload, number_in, of_parts, origin_bytes, origin_in, origin_of, sessions}
-use Rattle.messages.proofs.Targets.{bind_some, cond_some, map_small, none_some, some_inj, targets_back, targets_short, targets_there}
+use Rattle.messages.proofs.Targets.{bind_some, map_small, targets_back, targets_short, targets_there}
+use Rattle.std.proofs.lemmas.Option.{cond_some, none-some, same_Some}
 
 four : (n : ℕ) → n < 4294967296 → n / 16777216 % 256 * 16777216 + n / 65536 % 256 * 65536 + n / 256 % 256 * 256 + n % 256 ≡ n
 four n h =
@@ -66,10 +67,10 @@ pub record NumberBack (bs : List ℕ) (p : ℕ × List ℕ) : Type 0 where
   pub typed : (i : ℕ) → get_or p.1 i 0 < 256
 
 pub number_back : (bs : List ℕ) (p : ℕ × List ℕ) → ((i : ℕ) → get_or bs i 0 < 256) → number_in bs ≡ Some p → NumberBack bs p
-number_back [] p h e = absurd (none_some p e)
-number_back (a ∷ []) p h e = absurd (none_some p e)
-number_back (a ∷ b ∷ []) p h e = absurd (none_some p e)
-number_back (a ∷ b ∷ c ∷ []) p h e = absurd (none_some p e)
+number_back [] p h e = absurd (none-some p e)
+number_back (a ∷ []) p h e = absurd (none-some p e)
+number_back (a ∷ b ∷ []) p h e = absurd (none-some p e)
+number_back (a ∷ b ∷ c ∷ []) p h e = absurd (none-some p e)
 number_back (a ∷ b ∷ c ∷ d ∷ bs) p h e =
     let a< : a < 256 = h 0 in
     let b< : b < 256 = h 1 in
@@ -81,7 +82,7 @@ number_back (a ∷ b ∷ c ∷ d ∷ bs) p h e =
     let nc : c ≡ n / 256 % 256 = omega arith in
     let nd : d ≡ n % 256 = omega arith in
     let s : n < 4294967296 = omega arith in
-    subst (λ p. NumberBack (a ∷ b ∷ c ∷ d ∷ bs) p) (some_inj _ p e)
+    subst (λ p. NumberBack (a ∷ b ∷ c ∷ d ∷ bs) p) (same_Some _ p e)
     (record { bytes = λ i. na i ∷ nb i ∷ nc i ∷ nd i ∷ bs; small = s; typed = λ i. h (suc (suc (suc (suc i)))) })
 
 pub record OriginBack (bs : List ℕ) (p : Option Origin × List ℕ) : Type 0 where
@@ -96,24 +97,24 @@ origin_by s a b bs o true v a< b< h p q e =
     let ii = eqb-true (a * 256 + b) 0 k.1 in
     let az : a ≡ 0 = omega arith in
     let bz : b ≡ 0 = omega arith in
-    subst (λ o. OriginBack (s ∷ a ∷ b ∷ bs) (o, bs)) (some_inj _ o e) (record { bytes = λ i. is i ∷ az i ∷ bz i ∷ bs; lawful = refl; typed = h })
+    subst (λ o. OriginBack (s ∷ a ∷ b ∷ bs) (o, bs)) (same_Some _ o e) (record { bytes = λ i. is i ∷ az i ∷ bz i ∷ bs; lawful = refl; typed = h })
 origin_by s a b bs o false true a< b< h p q e =
     let k = and_parts (ltb s sessions) (ltb 0 (a * 256 + b)) q in
     let n = a * 256 + b in
     let na : a ≡ n / 256 % 256 = omega arith in
     let nb : b ≡ n % 256 = omega arith in
     let small : n < 65536 = omega arith in
-    subst (λ o. OriginBack (s ∷ a ∷ b ∷ bs) (o, bs)) (some_inj _ o e)
+    subst (λ o. OriginBack (s ∷ a ∷ b ∷ bs) (o, bs)) (same_Some _ o e)
     (record { bytes = λ i. s ∷ na i ∷ nb i ∷ bs; lawful = and_from _ _ k.0 (and_from _ _ k.1 (lt-ltb n 65536 small)); typed = h })
-origin_by s a b bs o false false a< b< h p q e = absurd (none_some o e)
+origin_by s a b bs o false false a< b< h p q e = absurd (none-some o e)
 
 pub origin_back : (bs : List ℕ) (p : Option Origin × List ℕ) → ((i : ℕ) → get_or bs i 0 < 256) → origin_in bs ≡ Some p → OriginBack bs p
-origin_back [] p h e = absurd (none_some p e)
-origin_back (s ∷ []) p h e = absurd (none_some p e)
-origin_back (s ∷ a ∷ []) p h e = absurd (none_some p e)
+origin_back [] p h e = absurd (none-some p e)
+origin_back (s ∷ []) p h e = absurd (none-some p e)
+origin_back (s ∷ a ∷ []) p h e = absurd (none-some p e)
 origin_back (s ∷ a ∷ b ∷ bs) p h e =
     let o = bind_some (origin_of s (a * 256 + b)) _ p e in
-    let q : ◌≡◌ {A = Option Origin × List ℕ} (o.0, bs) p = some_inj _ p o.2 in
+    let q : ◌≡◌ {A = Option Origin × List ℕ} (o.0, bs) p = same_Some _ p o.2 in
     subst (λ p. OriginBack (s ∷ a ∷ b ∷ bs) p) q (origin_by s a b bs o.0 _ _ (h 1) (h 2) (λ i. h (suc (suc (suc i)))) refl refl o.1)
 
 pub message_back : (bs : List ℕ) (m : Message) → ((i : ℕ) → get_or bs i 0 < 256) → decode bs ≡ Some m → (encode m ≡ bs) × (lawful_message m ≡ true)

@@ -1,5 +1,6 @@
 -- Targets and their bytes.
 use Rattle.std.proofs.Common.{◌≡◌, ℕ, zero, suc, ◌+◌, ◌*◌, ◌/◌, ◌%◌, ◌^◌, ◌<◌, ◌≤◌, Bool, true, false, cond, eqb, List, [], ◌∷◌, ◌++◌, length, Some, None, Option, sym, refl, ap, ◌∙◌, subst, pow-suc, arith}
+use Rattle.std.proofs.lemmas.Option.{cond_some, none-some, same_Some}
 use Rattle.std.proofs.lemmas.Bool.{and_parts, and_from, eqb-true, eqb-false}
 use Rattle.topics.specs.Qos.{qos_number, qos_of}
 use Rattle.topics.specs.declared.qos.Qos.{Qos}
@@ -8,22 +9,12 @@ use Rattle.topics.proofs.Qualities.{qos_law}
 use Rattle.messages.specs.declared.parts.State.{State}
 use Rattle.messages.specs.declared.parts.State.TheVariants.{Waiting, Sent, Released}
 use Rattle.messages.specs.declared.parts.Target.{Target}
-use Rattle.messages.specs.Target.{add_front, bind, if_lawful, lawful_target, lawful_targets, map_of, state_number, state_of, target_byte, target_bytes, target_in, target_of, targets_in}
-
-pub some_inj : {A : Type 0} (x y : A) → Some x ≡ Some y → x ≡ y
-some_inj x y e = cc
-
-pub none_some : {A : Type 0} (x : A) → None ≡ Some x → ⊥
-none_some x e = let z : ◌≡◌ {A = ℕ} 0 1 = cc in omega arith
+use Rattle.messages.specs.Target.{add_front, bind, lawful_target, lawful_targets, map_of, state_number, state_of, target_byte, target_bytes, target_in, target_of, targets_in}
 
 -- a step that came to something went through something
 pub bind_some : {A B : Type 0} (o : Option A) (f : A → Option B) (y : B) → bind o f ≡ Some y → (x : A) × (o ≡ Some x) × (f x ≡ Some y)
-bind_some None f y e = absurd (none_some y e)
+bind_some None f y e = absurd (none-some y e)
 bind_some (Some x) f y e = (x, refl, e)
-
-pub cond_some : {A : Type 0} (v : Bool) (x y : A) → cond v (Some x) None ≡ Some y → (v ≡ true) × (x ≡ y)
-cond_some true x y e = (refl, some_inj x y e)
-cond_some false x y e = absurd (none_some y e)
 
 -- ---- one target
 
@@ -43,10 +34,10 @@ pub target_there : (t : Target) → lawful_target t ≡ true → target_of (targ
 target_there t ok = target_by t.qos t.state ok
 
 state_by : (n : ℕ) (s : State) (u v w : Bool) → eqb n 1 ≡ u → eqb n 2 ≡ v → eqb n 3 ≡ w → cond {A = Option State} u (Some Waiting) (cond v (Some Sent) (cond w (Some Released) None)) ≡ Some s → n ≡ state_number s
-state_by n s true v w a b c e = eqb-true n 1 a ∙ ap state_number (some_inj Waiting s e)
-state_by n s false true w a b c e = eqb-true n 2 b ∙ ap state_number (some_inj Sent s e)
-state_by n s false false true a b c e = eqb-true n 3 c ∙ ap state_number (some_inj Released s e)
-state_by n s false false false a b c e = absurd (none_some s e)
+state_by n s true v w a b c e = eqb-true n 1 a ∙ ap state_number (same_Some Waiting s e)
+state_by n s false true w a b c e = eqb-true n 2 b ∙ ap state_number (same_Some Sent s e)
+state_by n s false false true a b c e = eqb-true n 3 c ∙ ap state_number (same_Some Released s e)
+state_by n s false false false a b c e = absurd (none-some s e)
 
 state_back : (n : ℕ) (s : State) → state_of n ≡ Some s → n ≡ state_number s
 state_back n s e = state_by n s (eqb n 1) (eqb n 2) (eqb n 3) refl refl refl e
@@ -61,19 +52,6 @@ target_back b t e =
     let n = state_back (b % 16) s.0 s.1 in
     let k : b ≡ qos_number q.0 * 16 + state_number s.0 = omega arith in
     (k ∙ ap target_byte l.1, sym (ap lawful_target l.1) ∙ l.0)
-
-pub from_none : (b : ℕ) (q : Qos) → Some q ≡ qos_of (b / 16) → None ≡ state_of (b % 16) → None ≡ target_of b
-unfolding target_of
-from_none b q e f =
-    ap (λ (x : Option State). bind {B = Target} x (λ s. if_lawful (record { qos = q; state = s }))) f
-    ∙ ap (λ (x : Option Qos). bind {B = Target} x (λ q. bind {B = Target} (state_of (b % 16)) (λ s. if_lawful (record { qos = q; state = s })))) e
-
-pub from_some : (b : ℕ) (q : Qos) (s : State) (v : Bool) → Some q ≡ qos_of (b / 16) → Some s ≡ state_of (b % 16) → v ≡ lawful_target (record { qos = q; state = s }) → cond {A = Option Target} v (Some (record { qos = q; state = s })) None ≡ target_of b
-unfolding target_of
-from_some b q s v e f g =
-    ap (λ v. cond {A = Option Target} v (Some (record { qos = q; state = s })) None) g
-    ∙ ap (λ (x : Option State). bind {B = Target} x (λ s. if_lawful (record { qos = q; state = s }))) f
-    ∙ ap (λ (x : Option Qos). bind {B = Target} x (λ q. bind {B = Target} (state_of (b % 16)) (λ s. if_lawful (record { qos = q; state = s })))) e
 
 -- ---- all of them
 
@@ -115,15 +93,15 @@ pub record TargetsBack (k m : ℕ) (bs : List ℕ) (p : List (Option Target) × 
   pub lawful : lawful_targets p.0 ≡ true
 
 add_some : (t : Option Target) (o : Option (List (Option Target) × List ℕ)) (p : List (Option Target) × List ℕ) → add_front t o ≡ Some p → (q : List (Option Target) × List ℕ) × (o ≡ Some q) × (◌≡◌ {A = List (Option Target) × List ℕ} (t ∷ q.0, q.1) p)
-add_some t None p e = absurd (none_some p e)
-add_some t (Some q) p e = (q, refl, some_inj _ p e)
+add_some t None p e = absurd (none-some p e)
+add_some t (Some q) p e = (q, refl, same_Some _ p e)
 
 target_in_lem : (bs : List ℕ) (p : Target × List ℕ) → target_in bs ≡ Some p → (bs ≡ target_byte p.0 ∷ p.1) × (lawful_target p.0 ≡ true)
-target_in_lem [] p e = absurd (none_some p e)
+target_in_lem [] p e = absurd (none-some p e)
 target_in_lem (b ∷ bs) p e =
     let t = bind_some (target_of b) _ p e in
     let h = target_back b t.0 t.1 in
-    let q : ◌≡◌ {A = Target × List ℕ} (t.0, bs) p = some_inj _ p t.2 in
+    let q : ◌≡◌ {A = Target × List ℕ} (t.0, bs) p = same_Some _ p t.2 in
     ((λ i. h.0 i ∷ bs) ∙ ap (λ (r : Target × List ℕ). target_byte r.0 ∷ r.1) q, sym (ap (λ (r : Target × List ℕ). lawful_target r.0) q) ∙ h.1)
 
 targets_by : (k m : ℕ) (bs : List ℕ) (p : List (Option Target) × List ℕ) (v : Bool) → eqb (m % 2) 0 ≡ v → m < 2 ^ suc k → ((m : ℕ) (bs : List ℕ) (p : List (Option Target) × List ℕ) → m < 2 ^ k → targets_in k m bs ≡ Some p → TargetsBack k m bs p) → cond v (add_front None (targets_in k (m / 2) bs)) (bind (target_in bs) (λ p. add_front (Some p.0) (targets_in k (m / 2) p.1))) ≡ Some p → TargetsBack (suc k) m bs p
@@ -152,5 +130,5 @@ pub targets_back : (k m : ℕ) (bs : List ℕ) (p : List (Option Target) × List
 unfolding targets_in
 targets_back zero m bs p small e =
     let z : m ≡ 0 = omega arith in
-    subst (λ p. TargetsBack 0 m bs p) (some_inj _ p e) (record { bytes = refl; map = z; count = refl; lawful = refl })
+    subst (λ p. TargetsBack 0 m bs p) (same_Some _ p e) (record { bytes = refl; map = z; count = refl; lawful = refl })
 targets_back (suc k) m bs p small e = targets_by k m bs p (eqb (m % 2) 0) refl small (targets_back k) e

@@ -1,9 +1,11 @@
 -- Targets of a message.
-use Rattle.std.specs.Prelude.{ℕ, zero, suc, ◌+◌, ◌*◌, ◌/◌, ◌%◌, Bool, true, false, cond, ◌&&◌, List, [], ◌∷◌, Some, None, Option, ◌==◌, nat_le}
+use Rattle.std.specs.Prelude.{◌≡◌, ℕ, zero, suc, ◌+◌, ◌*◌, ◌/◌, ◌%◌, Bool, true, false, cond, ◌&&◌, List, [], ◌∷◌, Some, None, Option, Result, MatchResult, ◌==◌, nat_le}
 use Rattle.topics.specs.Qos.{qos_number, qos_of}
 use Rattle.messages.specs.declared.parts.State.{State}
 use Rattle.messages.specs.declared.parts.State.TheVariants.{Waiting, Sent, Released}
+use Rattle.messages.specs.declared.parts.UnknownState.{UnknownState}
 use Rattle.messages.specs.declared.parts.Target.{Target}
+use Rattle.messages.specs.declared.parts.UnknownTarget.{UnknownTarget}
 
 -- one step, and the next on what it gives
 abbrev pub bind : {A B : Type 0} → Option A → (A → Option B) → Option B
@@ -20,6 +22,10 @@ state_number Released = 3
 abbrev pub state_of : ℕ → Option State
 state_of n = cond (n == 1) (Some Waiting) (cond (n == 2) (Some Sent) (cond (n == 3) (Some Released) None))
 
+-- the result is the state with this number, or the number itself where none has it
+abbrev pub DecodesState : ℕ → Result State UnknownState → Type 0
+DecodesState n r = MatchResult r (λ s. state_of n ≡ Some s) (λ e. (state_of n ≡ None) × (e.0 ≡ n))
+
 -- quality of service 0 knows only waiting, 1 also sent, 2 also released
 abbrev pub lawful_target : Target → Bool
 lawful_target t = nat_le (state_number t.state) (qos_number t.qos + 1)
@@ -34,6 +40,10 @@ if_lawful t = cond (lawful_target t) (Some t) None
 -- the target in a byte
 unfoldable pub target_of : ℕ → Option Target
 target_of b = bind (qos_of (b / 16)) (λ q. bind (state_of (b % 16)) (λ s. if_lawful (record { qos = q; state = s })))
+
+-- the result is the target in this byte, or the byte itself where it is against the layout
+abbrev pub DecodesTarget : ℕ → Result Target UnknownTarget → Type 0
+DecodesTarget b r = MatchResult r (λ t. target_of b ≡ Some t) (λ e. (target_of b ≡ None) × (e.0 ≡ b))
 
 -- the target at the front, and what follows
 abbrev pub target_in : List ℕ → Option (Target × List ℕ)

@@ -4,10 +4,14 @@ use topics::qos::Qos;
 /// How far the delivery to a target has come.
 #[derive(Clone, Copy, Debug, PartialEq, Eq)]
 pub enum State {
-    Waiting,
-    Sent,
-    Released,
+    Waiting = 1,
+    Sent = 2,
+    Released = 3,
 }
+
+/// A number that no state has.
+#[derive(Clone, Copy, Debug, PartialEq, Eq)]
+pub struct UnknownState(pub u8);
 
 /// What a session is owed: with which quality of service, and how far that has come.
 #[derive(Clone, Copy)]
@@ -15,6 +19,10 @@ pub struct Target {
     pub qos: Qos,
     pub state: State,
 }
+
+/// A byte that stands for no target.
+#[derive(Clone, Copy, Debug, PartialEq, Eq)]
+pub struct UnknownTarget(pub u8);
 
 /// Where a message came from while its publisher may still repeat it: session and packet identifier.
 #[derive(Clone, Copy)]

@@ -1,32 +1,48 @@
 // Targets and their bytes.
 ghost use Rattle.std.specs.Prelude.{◌≡◌};
-ghost use Rattle.messages.specs.Target.{lawful_target, state_number, state_of, target_byte, target_of};
+ghost use Rattle.messages.specs.Target.{DecodesState, DecodesTarget, lawful_target, state_number, target_byte};
 
-use crate::parts::{State, Target};
+use crate::parts::{State, Target, UnknownState, UnknownTarget};
 use topics::qos::Qos;
 
-impl State {
-    /// The state with this number: 1 waiting, 2 sent, 3 released, or none.
-    pub fn from_number(n: u8) -> Option<State>
-        ensures answer { result ≡ state_of n }
-    {
+impl TryFrom<u8> for State {
+    type Error = UnknownState;
+
+    ghost try_from_gives = { DecodesState };
+
+    fn try_from(n: u8) -> Result<State, UnknownState> {
         match n {
-            1 => Some(State::Waiting),
-            2 => Some(State::Sent),
-            3 => Some(State::Released),
-            _ => None,
+            1 => Ok(State::Waiting),
+            2 => Ok(State::Sent),
+            3 => Ok(State::Released),
+            _ => Err(UnknownState(n)),
         }
     }
+}
 
+impl State {
     /// Its number, 1 to 3.
     pub fn number(self) -> u8
         ensures answer { result ≡ state_number self }
     {
-        match self {
-            State::Waiting => 1,
-            State::Sent => 2,
-            State::Released => 3,
+        self as u8
+    }
+}
+
+impl TryFrom<u8> for Target {
+    type Error = UnknownTarget;
+
+    ghost try_from_gives = { DecodesTarget };
+
+    #[tactic(auto, unfolding(crate::specs::Target::target_of))]
+    fn try_from(b: u8) -> Result<Target, UnknownTarget> {
+        let qos = Qos::try_from(b / 16).map_err(|_| UnknownTarget(b))?;
+        let state = State::try_from(b % 16).map_err(|_| UnknownTarget(b))?;
+        let target = Target { qos, state };
+        if !target.is_lawful() {
+            return Err(UnknownTarget(b));
         }
+        Ok(target)
     }
 }
 
@@ -43,22 +59,5 @@ impl Target {
         ensures answer { result ≡ target_byte self }
     {
         self.qos.number() * 16 + self.state.number()
-    }
-
-    /// The target in a byte of a row, or none where the byte is against the layout.
-    pub fn from_byte(b: u8) -> Option<Target>
-        ensures answer { result ≡ target_of b }
-    {
-        let Some(qos) = Qos::from_number(b / 16) else {
-            return None;
-        };
-        let Some(state) = State::from_number(b % 16) else {
-            return None;
-        };
-        let target = Target { qos, state };
-        if !target.is_lawful() {
-            return None;
-        }
-        Some(target)
     }
 }

@@ -1,6 +1,6 @@
 -- Texts behind a length byte.
 use Rattle.std.proofs.Common.{◌≡◌, ℕ, ◌-◌, ◌≤◌, Bool, true, false, cond, leb, List, [], ◌∷◌, ◌++◌, length, get_or, take, drop, Some, None, Option, sym, refl, ap, ◌∙◌, arith, length-append}
-use Rattle.std.proofs.lemmas.List.{take_at, drop_at, take_all, take_rest, take-append-drop, length-take-le}
+use Rattle.std.proofs.lemmas.List.{take_at, drop_at, take_all, take-append-drop, length-take-le}
 use Rattle.std.proofs.lemmas.Bool.{le-leb, leb-true}
 use Rattle.rows.specs.Text.{TextLaw, text_in, text_bytes}
 
@@ -44,16 +44,3 @@ text_back (n ∷ bs) t rest f = back_by n bs t rest (leb n (length bs)) refl f
 
 pub text_law : TextLaw
 text_law = record { there = text_there; back = text_back }
-
--- the parts that slices of a lent list hold
-split_by : (n : ℕ) (xs l : List ℕ) → l ≡ xs → n ≤ length xs → Some (take (n - 0) l, take (length l - n) (drop n l)) ≡ text_in (n ∷ xs)
-split_by n xs l e h =
-    let z : n - 0 ≡ n = omega arith in
-    rw (e, z, take_rest xs n, le-leb n (length xs) h)
-
-pub split : (bs : List ℕ) → 1 ≤ length bs → get_or bs 0 0 ≤ length (take (length bs - 1) (drop 1 bs)) → Some (take (get_or bs 0 0 - 0) (take (length bs - 1) (drop 1 bs)), take (length (take (length bs - 1) (drop 1 bs)) - get_or bs 0 0) (drop (get_or bs 0 0) (take (length bs - 1) (drop 1 bs)))) ≡ text_in bs
-split [] h k = absurd (omega arith)
-split (n ∷ xs) h k =
-    let e : take (length (n ∷ xs) - 1) xs ≡ xs = take_all _ xs (omega arith) in
-    let m : length (take (length (n ∷ xs) - 1) xs) ≡ length xs = ap length e in
-    split_by n xs _ e (omega arith)

@@ -1,5 +1,5 @@
 -- Rows written into a buffer.
-use Rattle.std.specs.Prelude.{◌≡◌, ℕ, ◌+◌, ◌<◌, List, ◌++◌, length, take, drop, Ok, Err, Result}
+use Rattle.std.specs.Prelude.{◌≡◌, ℕ, ◌<◌, List, ◌++◌, length, drop, Ok, Err, Result}
 use Rattle.std.specs.Borrow.{Bor}
 use Rattle.std.specs.List.{flat_map}
 use Rattle.rows.specs.declared.write.Unwritten.{Unwritten}
@@ -19,9 +19,3 @@ Written (Ok bs) (Err Absent) d e = ⊥
 Written (Ok bs) (Err Over) d e = ⊥
 Written (Ok bs) (Err Short) d e = (length d < length bs) × (e ≡ d)
 Written (Err why) r d e = (r ≡ Err why) × (e ≡ d)
-
--- ---- words of private functions, on which nothing above stands
-
--- the bytes xs written over d from a place on
-unfoldable pub over : List ℕ → ℕ → List ℕ → List ℕ
-over d at xs = take at d ++ (xs ++ drop (at + length xs) d)

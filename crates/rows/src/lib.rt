@@ -5,4 +5,5 @@ pub mod text;
 pub mod write;
 
 /// The most bytes that a row has.
+// The store's ROW_BYTES again: for this one number every layout would stand on the store.
 pub const MAX_ROW: usize = 560;

@@ -6,14 +6,8 @@ ghost use Rattle.rows.specs.Text.{TextLaw, text_in, texts};
 pub fn split_text(bytes: &[u8]) -> Option<(&[u8], &[u8])>
     ensures answer { texts result ≡ text_in bytes.now }
 {
-    let [n, rest @ ..] = bytes else {
-        return None;
-    };
-    let n = *n as usize;
-    if n > rest.len() {
-        return None;
-    }
-    Some((&rest[0..n], &rest[n..]))
+    let (size, rest) = bytes.split_first()?;
+    rest.split_at_checked(*size as usize)
 }
 
 /// A text and what follows it are told apart again, and nothing else is told apart so.

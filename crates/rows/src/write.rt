@@ -1,6 +1,7 @@
 // Rows written into a buffer.
-ghost use Rattle.std.specs.Prelude.{◌≡◌, ℕ, ◌+◌, ◌≤◌, length, Ok, nat_le};
-ghost use Rattle.rows.specs.Write.{Written, over, pieced};
+ghost use Rattle.std.specs.Prelude.{◌≡◌, cond, length, Ok, Err, nat_le};
+ghost use Rattle.rows.specs.Write.{Written, pieced};
+ghost use Rattle.rows.specs.declared.write.Unwritten.TheVariants.{Short};
 
 /// Why no row was written: a part is against the layout, a ninth filter, no such target or origin,
 /// nothing left (the row is to be dropped), or too small a buffer.
@@ -17,36 +18,23 @@ pub enum Unwritten {
 pub fn write_all(pieces: &[&[u8]], out: &mut [u8]) -> Result<usize, Unwritten>
     ensures buffer { Written (Ok (pieced pieces.now)) result out.old out.new }
 {
-    if !fits(pieces, out.len()) {
-        return Err(Unwritten::Short);
-    }
-    let mut at = 0;
+    check_room(pieces, out.len())?;
+    let mut end = 0;
     for piece in pieces {
-        at = put(out, at, piece);
+        let start = end;
+        end += piece.len();
+        out[start..end].copy_from_slice(piece);
     }
-    Ok(at)
+    Ok(end)
 }
 
-fn fits(pieces: &[&[u8]], room: usize) -> bool
-    ensures answer { result ≡ nat_le (length (pieced pieces.now)) room }
+// Refuses a room that the pieces don't fit.
+fn check_room(pieces: &[&[u8]], room: usize) -> Result<(), Unwritten>
+    ensures answer { result ≡ cond (nat_le (length (pieced pieces.now)) room) (Ok tt) (Err Short) }
 {
     let mut left = room;
     for piece in pieces {
-        if piece.len() > left {
-            return false;
-        }
-        left -= piece.len();
+        left = left.checked_sub(piece.len()).ok_or(Unwritten::Short)?;
     }
-    true
-}
-
-// Writes the bytes over the buffer from there on, and says where they end.
-fn put(out: &mut [u8], at: usize, bytes: &[u8]) -> usize
-    requires { at + length bytes.now ≤ length out.old }
-    ensures end { result ≡ at + length bytes.now }
-    ensures after { out.new ≡ over out.old at bytes.now }
-{
-    let end = at + bytes.len();
-    out[at..end].copy_from_slice(bytes);
-    end
+    Ok(())
 }

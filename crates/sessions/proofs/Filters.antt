@@ -1,6 +1,7 @@
 -- Filters in rows.
 use Rattle.std.proofs.Common.{◌≡◌, ℕ, zero, suc, ◌*◌, ◌≤◌, Bool, true, false, cond, not, ◌&&◌, leb, List, [], ◌∷◌, ◌++◌, length, Some, None, Option, sym, refl, ap, ◌∙◌, subst, arith, length-append}
 use Rattle.std.specs.List.{flat_map}
+use Rattle.std.proofs.lemmas.Option.{none-some, same_Some}
 use Rattle.std.proofs.lemmas.Bool.{and_parts, and_from, not-true, not_from_false, leb-true}
 use Rattle.topics.specs.Levels.{levels}
 use Rattle.topics.specs.Text.{is_text}
@@ -40,12 +41,6 @@ session_there s ok =
     ∙ ap (λ v. cond {A = Option Session} v (named s.client (filters_in (length s.filters) (flat_map filter_bytes s.filters))) None) q.0
     ∙ ap (named s.client) (filters_there s.filters q.1)
 
-pub some_inj : {A : Type 0} (x y : A) → Some x ≡ Some y → x ≡ y
-some_inj x y e = cc
-
-none_some : {A : Type 0} (x : A) → None ≡ Some x → ⊥
-none_some x e = let z : ◌≡◌ {A = ℕ} 0 1 = cc in omega arith
-
 -- the subscription at the front stands there in its bytes
 pub record FilterBack (bs : List ℕ) (p : Subscribed × List ℕ) : Type 0 where
   pub bytes : bs ≡ filter_bytes p.0 ++ p.1
@@ -55,17 +50,17 @@ qualified_by : (q : ℕ) (k : Qos) (bs : List ℕ) (t : List ℕ × List ℕ) (p
 qualified_by q k bs t p true ok e f g =
     let n = qos_law.back q k e in
     let b = text_back bs t.0 t.1 f in
-    subst (λ p. FilterBack (q ∷ bs) p) (some_inj _ p g) (record { bytes = λ i. n i ∷ b i; lawful = ok })
-qualified_by q k bs t p false ok e f g = absurd (none_some p g)
+    subst (λ p. FilterBack (q ∷ bs) p) (same_Some _ p g) (record { bytes = λ i. n i ∷ b i; lawful = ok })
+qualified_by q k bs t p false ok e f g = absurd (none-some p g)
 
 qualified_back : (q : ℕ) (oq : Option Qos) (bs : List ℕ) (ot : Option (List ℕ × List ℕ)) (p : Subscribed × List ℕ) → qos_of q ≡ oq → text_in bs ≡ ot → qualified oq ot ≡ Some p → FilterBack (q ∷ bs) p
-qualified_back q None bs ot p e f g = absurd (none_some p g)
-qualified_back q (Some k) bs None p e f g = absurd (none_some p g)
+qualified_back q None bs ot p e f g = absurd (none-some p g)
+qualified_back q (Some k) bs None p e f g = absurd (none-some p g)
 qualified_back q (Some k) bs (Some t) p e f g = qualified_by q k bs t p (is_topic_filter t.0) refl e f g
 
 pub filter_back : (bs : List ℕ) (p : Subscribed × List ℕ) → filter_in bs ≡ Some p → FilterBack bs p
 unfolding filter_in
-filter_back [] p g = absurd (none_some p g)
+filter_back [] p g = absurd (none-some p g)
 filter_back (q ∷ bs) p g = qualified_back q (qos_of q) bs (text_in bs) p refl refl g
 
 -- what was read of so many subscriptions
@@ -76,10 +71,10 @@ pub record FiltersBack (n : ℕ) (bs : List ℕ) (ss : List Subscribed) : Type 0
   pub list : listed n bs ≡ ss
 
 front_by : (n : ℕ) (bs : List ℕ) (ss ts : List Subscribed) (p : Subscribed × List ℕ) (v : Bool) → stands p.0.filter ts ≡ v → filter_in bs ≡ Some p → FiltersBack n p.1 ts → cond {A = Option (List Subscribed)} v None (Some (p.0 ∷ ts)) ≡ Some ss → FiltersBack (suc n) bs ss
-front_by n bs ss ts p true st f b e = absurd (none_some ss e)
+front_by n bs ss ts p true st f b e = absurd (none-some ss e)
 front_by n bs ss ts p false st f b e =
     let h = filter_back bs p f in
-    subst (λ ss. FiltersBack (suc n) bs ss) (some_inj _ ss e)
+    subst (λ ss. FiltersBack (suc n) bs ss) (same_Some _ ss e)
     (record {
       bytes = h.bytes ∙ ap (λ l. filter_bytes p.0 ++ l) b.bytes;
       count = ap suc b.count;
@@ -88,16 +83,16 @@ front_by n bs ss ts p false st f b e =
     })
 
 front_back : (n : ℕ) (bs : List ℕ) (ss : List Subscribed) (p : Subscribed × List ℕ) (o : Option (List Subscribed)) → filter_in bs ≡ Some p → ((ts : List Subscribed) → o ≡ Some ts → FiltersBack n p.1 ts) → in_front p.0 o ≡ Some ss → FiltersBack (suc n) bs ss
-front_back n bs ss p None f ih e = absurd (none_some ss e)
+front_back n bs ss p None f ih e = absurd (none-some ss e)
 front_back n bs ss p (Some ts) f ih e = front_by n bs ss ts p (stands p.0.filter ts) refl f (ih ts refl) e
 
 rest_back : (n : ℕ) (bs : List ℕ) (ss : List Subscribed) (o : Option (Subscribed × List ℕ)) → ((bs : List ℕ) (ts : List Subscribed) → filters_in n bs ≡ Some ts → FiltersBack n bs ts) → filter_in bs ≡ o → then_rest (filters_in n) o ≡ Some ss → FiltersBack (suc n) bs ss
-rest_back n bs ss None ih f e = absurd (none_some ss e)
+rest_back n bs ss None ih f e = absurd (none-some ss e)
 rest_back n bs ss (Some p) ih f e = front_back n bs ss p (filters_in n p.1) f (ih p.1) e
 
 pub filters_back : (n : ℕ) (bs : List ℕ) (ss : List Subscribed) → filters_in n bs ≡ Some ss → FiltersBack n bs ss
-filters_back zero [] ss e = subst (λ ss. FiltersBack 0 [] ss) (some_inj _ ss e) (record { bytes = refl; count = refl; lawful = refl; list = refl })
-filters_back zero (b ∷ bs) ss e = absurd (none_some ss e)
+filters_back zero [] ss e = subst (λ ss. FiltersBack 0 [] ss) (same_Some _ ss e) (record { bytes = refl; count = refl; lawful = refl; list = refl })
+filters_back zero (b ∷ bs) ss e = absurd (none-some ss e)
 filters_back (suc n) bs ss e = rest_back n bs ss (filter_in bs) (filters_back n) refl e
 
 -- ---- whole rows
@@ -107,10 +102,10 @@ pub record SessionBack (bs : List ℕ) (s : Session) : Type 0 where
   pub lawful : lawful_session s ≡ true
 
 named_back : (client : List ℕ) (n : ℕ) (bs : List ℕ) (s : Session) (o : Option (List Subscribed)) → is_client_id client ≡ true → leb n max_filters ≡ true → filters_in n bs ≡ o → named client o ≡ Some s → SessionBack (text_bytes client ++ n ∷ bs) s
-named_back client n bs s None c l f e = absurd (none_some s e)
+named_back client n bs s None c l f e = absurd (none-some s e)
 named_back client n bs s (Some ss) c l f e =
     let b = filters_back n bs ss f in
-    subst (λ s. SessionBack (text_bytes client ++ n ∷ bs) s) (some_inj _ s e)
+    subst (λ s. SessionBack (text_bytes client ++ n ∷ bs) s) (same_Some _ s e)
     (record {
       bytes = λ i. text_bytes client ++ b.count i ∷ sym b.bytes i;
       lawful = and_from _ _ c (and_from _ _ (ap (λ k. leb k max_filters) b.count ∙ l) b.lawful);
@@ -118,15 +113,15 @@ named_back client n bs s (Some ss) c l f e =
 
 count_back : (client : List ℕ) (n : ℕ) (bs : List ℕ) (s : Session) (v : Bool) → leb n max_filters ≡ v → is_client_id client ≡ true → cond {A = Option Session} v (named client (filters_in n bs)) None ≡ Some s → SessionBack (text_bytes client ++ n ∷ bs) s
 count_back client n bs s true l c e = named_back client n bs s (filters_in n bs) c l refl e
-count_back client n bs s false l c e = absurd (none_some s e)
+count_back client n bs s false l c e = absurd (none-some s e)
 
 after_back : (client rest : List ℕ) (s : Session) (v : Bool) → is_client_id client ≡ v → cond {A = Option Session} v (after_client client rest) None ≡ Some s → SessionBack (text_bytes client ++ rest) s
-after_back client [] s true c e = absurd (none_some s e)
+after_back client [] s true c e = absurd (none-some s e)
 after_back client (n ∷ bs) s true c e = count_back client n bs s (leb n max_filters) refl c e
-after_back client rest s false c e = absurd (none_some s e)
+after_back client rest s false c e = absurd (none-some s e)
 
 client_back : (bs : List ℕ) (s : Session) (o : Option (List ℕ × List ℕ)) → text_in bs ≡ o → from_client o ≡ Some s → SessionBack bs s
-client_back bs s None f e = absurd (none_some s e)
+client_back bs s None f e = absurd (none-some s e)
 client_back bs s (Some t) f e =
     subst (λ l. SessionBack l s) (sym (text_back bs t.0 t.1 f)) (after_back t.0 t.1 s (is_client_id t.0) refl e)
 

@@ -1,5 +1,5 @@
 -- Session rows as views that borrow from them.
-use Rattle.std.specs.Prelude.{ℕ, zero, suc, Bool, cond, ◌&&◌, List, [], ◌∷◌, is_some, Some, None, Ok, Err, Option, Result, nat_le}
+use Rattle.std.specs.Prelude.{◌≡◌, ℕ, zero, suc, ◌+◌, Bool, ◌⊎◌, cond, ◌&&◌, List, [], ◌∷◌, is_some, Some, None, Ok, Err, Option, Result, nat_le}
 use Rattle.std.specs.Borrow.{Bor}
 use Rattle.topics.specs.Names.{is_client_id}
 use Rattle.topics.specs.Subscription.{Subscribed, subscribed}
@@ -40,6 +40,14 @@ abbrev pub place : List Subscribed → ℕ → Option Subscribed
 place [] i = None
 place (s ∷ ss) zero = Some s
 place (s ∷ ss) (suc i) = place ss i
+
+-- no subscription is read at the front: as many as were wanted are past, or the bytes are against the layout
+abbrev pub Ends : Filters → Type 0
+Ends v = (v.count ≡ 0) ⊎ (filter_in v.part.now ≡ None)
+
+-- a subscription is read at the front, and these are after it
+abbrev pub Begins : Filters → Subscribed → Filters → Type 0
+Begins v s w = (v.count ≡ w.count + 1) × (filter_in v.part.now ≡ Some (s, w.part.now))
 
 -- what a subscription read from a row holds, and what follows it
 abbrev pub read : Option (Subscription × Bor (List ℕ)) → Option (Subscribed × List ℕ)
