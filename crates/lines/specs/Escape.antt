@@ -31,13 +31,14 @@ Inverse write text (Ok bytes) = (write (vec_items bytes) ≡ text) × Bytes (vec
 Inverse write text (Err Malformed) = (bs : List ℕ) → Bytes bs → write bs ≢ text
 Inverse write text (Err Memory) = Unit {0}
 
+-- the same where there is memory for what is read
+abbrev pub Undoes : (List ℕ → List ℕ) → List ℕ → Option (Vec ℕ Global) → Type 0
+Undoes write text (Some bytes) = (write (vec_items bytes) ≡ text) × Bytes (vec_items bytes)
+Undoes write text None = (bs : List ℕ) → Bytes bs → write bs ≢ text
+
 -- just what is written is read
 abbrev pub Unescaped : List ℕ → Result (Vec ℕ Global) LineError → Type 0
 Unescaped text r = Inverse escaped text r
-
--- the same where each byte is escaped
-abbrev pub Spelled : List ℕ → Result (Vec ℕ Global) LineError → Type 0
-Spelled text r = Inverse (each escaped_byte) text r
 
 -- the byte that was escaped at the front of a text, and what follows
 abbrev pub UnitIn : List ℕ → Option (ℕ × Bor (List ℕ)) → Type 0

@@ -53,6 +53,11 @@ hex_in [] = None
 hex_in (c ∷ []) = cond (c == 45) (Some []) None
 hex_in (h ∷ l ∷ rest) = pairs_in (h ∷ l ∷ rest)
 
+-- the bytes that are answered, if any
+abbrev pub bytes_read : Option (Vec ℕ Global) → Option (List ℕ)
+bytes_read None = None
+bytes_read (Some bytes) = Some (vec_items bytes)
+
 -- the bytes that a definition gives are answered, and a word of which it gives none is malformed
 abbrev pub Read : Option (List ℕ) → Result (Vec ℕ Global) LineError → Type 0
 Read meant (Ok bytes) = meant ≡ Some (vec_items bytes)

@@ -2,7 +2,7 @@
 // case; no bytes at all are `-`, and a lone `-` is `\x2d`.
 ghost use Rattle.std.specs.Prelude.{◌≡◌, ◌++◌, IfOk, string_bytes, OnOk};
 ghost use Rattle.lines.specs.Hex.{each};
-ghost use Rattle.lines.specs.Escape.{plain, escaped_byte, escaped, Unescaped, Spelled, UnitIn, CodeOf, EscapeLaw};
+ghost use Rattle.lines.specs.Escape.{plain, escaped_byte, escaped, Undoes, Unescaped, UnitIn, CodeOf, EscapeLaw};
 
 use crate::error::LineError;
 use crate::hex::{digit_of, push_byte, value_of};
@@ -23,16 +23,20 @@ pub fn escape(heap: Global, bytes: &[u8]) -> Result<String, AllocError>
 pub fn unescape(heap: Global, text: &[u8]) -> Result<Vec<u8>, LineError>
     ensures answer { Unescaped text.now result }
 {
-    if text.is_empty() {
-        return Err(LineError::Malformed);
+    escaped_bytes(heap, text)?.ok_or(LineError::Malformed)
+}
+
+// The bytes of which a text is the escaped text, none where it is written of no bytes, or the error that there is
+// no memory for them.
+pub fn escaped_bytes(heap: Global, text: &[u8]) -> Result<Option<Vec<u8>>, AllocError>
+    ensures answer { IfOk result (Undoes escaped text.now) }
+{
+    match text {
+        [] => Ok(None),
+        b"-" => Ok(Some(Vec::new(heap))),
+        b"\\x2d" => Ok(Some(vec![in heap; b'-']?)),
+        _ => unescape_each(heap, text),
     }
-    if text == b"-".as_slice() {
-        return Ok(Vec::new(heap));
-    }
-    if text == b"\\x2d".as_slice() {
-        return Ok(vec![in heap; b'-']?);
-    }
-    unescape_each(heap, text)
 }
 
 // What is written of some bytes is written of no other bytes, and is one word of printable characters.
@@ -72,19 +76,19 @@ fn push_escaped(text: &mut String, byte: u8) -> Result<(), AllocError>
 }
 
 // The bytes of which each was escaped, one after the other.
-fn unescape_each(heap: Global, text: &[u8]) -> Result<Vec<u8>, LineError>
-    ensures answer { Spelled text.now result }
+fn unescape_each(heap: Global, text: &[u8]) -> Result<Option<Vec<u8>>, AllocError>
+    ensures answer { IfOk result (Undoes (each escaped_byte) text.now) }
 {
     let mut bytes = Vec::new(heap);
     let mut rest = text;
     while !rest.is_empty() {
         let Some((byte, more)) = read_unit(rest) else {
-            return Err(LineError::Malformed);
+            return Ok(None);
         };
         bytes.push(byte)?;
         rest = more;
     }
-    Ok(bytes)
+    Ok(Some(bytes))
 }
 
 // The byte that was escaped first, and what follows.

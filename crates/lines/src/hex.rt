@@ -1,6 +1,6 @@
 // Bytes in hexadecimal: two digits each, or `-` for no bytes.
 ghost use Rattle.std.specs.Prelude.{◌≡◌, ◌/◌, ◌%◌, ◌<◌, cond, [], ◌∷◌, ◌++◌, is_ok, IfOk, string_bytes, OnOk};
-ghost use Rattle.lines.specs.Hex.{digit, digit_value, byte_hex, hex_text, pairs_in, hex_in, Read, Below16, HexLaw};
+ghost use Rattle.lines.specs.Hex.{digit, digit_value, byte_hex, hex_text, pairs_in, hex_in, bytes_read, Read, Below16, HexLaw};
 
 use crate::error::LineError;
 use std::alloc::{AllocError, Global};
@@ -10,30 +10,38 @@ use std::alloc::{AllocError, Global};
 pub fn read_hex(heap: Global, word: &[u8]) -> Result<Vec<u8>, LineError>
     ensures answer { Read (hex_in word.now) result }
 {
+    hex_bytes(heap, word)?.ok_or(LineError::Malformed)
+}
+
+// The bytes that a word of hexadecimal digits of either case writes, none where it has another character or an
+// odd number of digits, or the error that there is no memory for them.
+pub fn hex_bytes(heap: Global, word: &[u8]) -> Result<Option<Vec<u8>>, AllocError>
+    ensures answer { IfOk result (λ read. bytes_read read ≡ hex_in word.now) }
+{
     match word {
-        [] => Err(LineError::Malformed),
-        [b'-'] => Ok(Vec::new(heap)),
+        [] => Ok(None),
+        [b'-'] => Ok(Some(Vec::new(heap))),
         _ => read_pairs(heap, word),
     }
 }
 
 // The bytes of digits, two by two.
-fn read_pairs(heap: Global, digits: &[u8]) -> Result<Vec<u8>, LineError>
-    ensures answer { Read (pairs_in digits.now) result }
+fn read_pairs(heap: Global, digits: &[u8]) -> Result<Option<Vec<u8>>, AllocError>
+    ensures answer { IfOk result (λ read. bytes_read read ≡ pairs_in digits.now) }
 {
     let mut bytes = Vec::new(heap);
     let mut rest = digits;
     while let [high, low, more @ ..] = rest {
         let (Some(high), Some(low)) = (value_of(*high), value_of(*low)) else {
-            return Err(LineError::Malformed);
+            return Ok(None);
         };
         bytes.push(16 * high + low)?;
         rest = more;
     }
     if !rest.is_empty() {
-        return Err(LineError::Malformed);
+        return Ok(None);
     }
-    Ok(bytes)
+    Ok(Some(bytes))
 }
 
 // The bytes in lower case, or the error that there is no memory for them.
