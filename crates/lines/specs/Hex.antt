@@ -1,7 +1,7 @@
 -- Bytes in hexadecimal.
 use Rattle.std.specs.Prelude.{◌≡◌, ℕ, ◌+◌, ◌-◌, ◌*◌, ◌/◌, ◌%◌, ◌<◌, cond, ◌&&◌, List, [], ◌∷◌, ◌++◌, Some, None, Ok, Err, vec_items, Option, Result, Vec, ◌==◌, nat_le, nat_lt}
 use Rattle.std.specs.declared.alloc.Global.{Global}
-use Rattle.std.specs.List.{AllByRecursion}
+use Rattle.std.specs.List.{AllByRecursion, flat_map}
 use Rattle.lines.specs.declared.error.LineError.{LineError}
 use Rattle.lines.specs.declared.error.LineError.TheVariants.{Malformed, Memory}
 
@@ -13,15 +13,10 @@ digit n = cond (nat_lt n 10) (48 + n) (97 + (n - 10))
 abbrev pub byte_hex : ℕ → List ℕ
 byte_hex b = digit (b / 16) ∷ digit (b % 16) ∷ []
 
--- what is written of each byte, one after the other
-abbrev pub each : (ℕ → List ℕ) → List ℕ → List ℕ
-each f [] = []
-each f (b ∷ bs) = f b ++ each f bs
-
 -- the digits of some bytes, and `-` where there are none
 abbrev pub hex_text : List ℕ → List ℕ
 hex_text [] = 45 ∷ []
-hex_text (b ∷ bs) = each byte_hex (b ∷ bs)
+hex_text (b ∷ bs) = flat_map byte_hex (b ∷ bs)
 
 -- the number of a digit of either case
 abbrev pub digit_value : ℕ → Option ℕ

@@ -1,7 +1,7 @@
 use Rattle.std.proofs.Common.{◌≡◌, ℕ, ◌<◌, List, [], ◌∷◌, IfOk, length, get_or, Some, None, Ok, Err, vec_items, Option, Result, Vec, ap, arith, ltb-false, ltb-true}
 use Rattle.std.specs.declared.alloc.Global.{Global}
 use Rattle.std.specs.declared.alloc.AllocError.{AllocError}
-use Rattle.lines.specs.Hex.{each}
+use Rattle.std.specs.List.{flat_map}
 use Rattle.lines.specs.Escape.{escaped, escaped_byte, Undoes}
 use Rattle.lines.proofs.Escapes.{not-empty, read-each, none_each}
 use Rattle.lines.proofs.escape.escaped_bytes.Goals as goal
@@ -22,7 +22,7 @@ no-dash text o e = o.dash (ap length e) (ap (λ l. get_or l 0 0) e)
 no-code : (text : List ℕ) → Other text → text ≡ 92 ∷ 120 ∷ 50 ∷ 100 ∷ [] → ⊥
 no-code text o e = o.code (ap length e) (ap (λ l. get_or l 0 0) e) (ap (λ l. get_or l 1 0) e) (ap (λ l. get_or l 2 0) e) (ap (λ l. get_or l 3 0) e)
 
-other : (text : List ℕ) → Other text → (r : Result (Option (Vec ℕ Global)) AllocError) → IfOk r (Undoes (each escaped_byte) text) → IfOk r (Undoes escaped text)
+other : (text : List ℕ) → Other text → (r : Result (Option (Vec ℕ Global)) AllocError) → IfOk r (Undoes (flat_map escaped_byte) text) → IfOk r (Undoes escaped text)
 other text o (Ok (Some bytes)) s = (read-each text o.some (no-dash text o) (no-code text o) (vec_items bytes) s.0, s.1)
 other text o (Ok None) s = λ bs h e. none_each text o.some (no-dash text o) (no-code text o) bs (s bs h) e
 other text o (Err e) s = tt
