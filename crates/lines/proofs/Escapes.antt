@@ -25,22 +25,6 @@ same_hex a b p q e =
     let l = same_digit (a % 16) (b % 16) (omega arith) (omega arith) low in
     omega arith
 
--- two digits whose numbers are known are those of one byte
-pub record Known (high low h l b : ℕ) : Type 0 where
-  pub high_is : digit h ≡ high
-  pub low_is : digit l ≡ low
-  pub byte_is : 16 * h + l ≡ b
-
-pub code_known : (high low h l b : ℕ) → Some h ≡ digit_value high → Some l ≡ digit_value low → b < 256 → byte_hex b ≡ high ∷ low ∷ [] → Known high low h l b
-code_known high low h l b eh el p e =
-    let dh : digit (b / 16) ≡ high = ap (λ x. get_or x 0 0) e in
-    let dl : digit (b % 16) ≡ low = ap (λ x. get_or x 1 0) e in
-    let sh : Some h ≡ Some (b / 16) = eh ∙ ap digit_value (sym dh) ∙ digit_back (b / 16) (omega arith) in
-    let sl : Some l ≡ Some (b % 16) = el ∙ ap digit_value (sym dl) ∙ digit_back (b % 16) (omega arith) in
-    let h-is : h ≡ b / 16 = cc in
-    let l-is : l ≡ b % 16 = cc in
-    record { high_is = ap digit h-is ∙ dh; low_is = ap digit l-is ∙ dl; byte_is = omega arith }
-
 pub plain_is : (b : ℕ) → plain b ≡ true → escaped_byte b ≡ b ∷ []
 unfolding escaped_byte
 plain_is b e = simp e

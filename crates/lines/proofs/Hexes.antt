@@ -17,10 +17,6 @@ abbrev pub prepend : List ℕ → Option (List ℕ) → Option (List ℕ)
 prepend xs None = None
 prepend xs (Some ys) = Some (xs ++ ys)
 
-pub prepend_none : (r : Option (List ℕ)) → prepend [] r ≡ r
-prepend_none None = refl
-prepend_none (Some ys) = refl
-
 prepend_byte : (xs : List ℕ) (a b : ℕ) (r : Option (List ℕ)) → prepend xs (byte_before (Some a) (Some b) r) ≡ prepend (xs ++ (16 * a + b) ∷ []) r
 prepend_byte xs a b None = refl
 prepend_byte xs a b (Some ys) = ap (λ l. Some l) (sym (append_assoc xs ((16 * a + b) ∷ []) ys))
@@ -38,39 +34,6 @@ before-none : (h : Option ℕ) (r : Option (List ℕ)) → byte_before h None r 
 before-none None r = refl
 before-none (Some a) r = refl
 
--- a character that is no digit
-pub no_high : (xs rest : List ℕ) (r : Option (List ℕ)) → 2 ≤ length rest → None ≡ digit_value (get_or rest 0 0) → prepend xs (pairs_in rest) ≡ r → r ≡ None
-no_high xs [] r h ea e = absurd (omega arith)
-no_high xs (c ∷ []) r h ea e = absurd (omega arith)
-no_high xs (c ∷ d ∷ rest) r h ea e = sym e ∙ ap (λ o. prepend xs (byte_before o (digit_value d) (pairs_in rest))) (sym ea)
-
-pub no_low : (xs rest : List ℕ) (r : Option (List ℕ)) → 2 ≤ length rest → None ≡ digit_value (get_or rest 1 0) → prepend xs (pairs_in rest) ≡ r → r ≡ None
-no_low xs [] r h ea e = absurd (omega arith)
-no_low xs (c ∷ []) r h ea e = absurd (omega arith)
-no_low xs (c ∷ d ∷ rest) r h ea e =
-    sym e ∙ ap (λ o. prepend xs (byte_before (digit_value c) o (pairs_in rest))) (sym ea) ∙ ap (prepend xs) (before-none (digit_value c) (pairs_in rest))
-
--- one digit is left over
-pub one_left : (xs rest : List ℕ) (r : Option (List ℕ)) → length rest < 2 → 0 < length rest → prepend xs (pairs_in rest) ≡ r → r ≡ None
-one_left xs [] r h n e = absurd (omega arith)
-one_left xs (c ∷ []) r h n e = sym e
-one_left xs (c ∷ d ∷ rest) r h n e = absurd (omega arith)
-
-pub all_read : (xs rest : List ℕ) (r : Option (List ℕ)) → length rest ≡ 0 → prepend xs (pairs_in rest) ≡ r → r ≡ Some xs
-all_read xs [] r h e = sym e ∙ ap (λ l. Some l) (append-nil xs)
-all_read xs (c ∷ rest) r h e = absurd (omega arith)
-
--- a word that is neither empty nor `-` is read two by two
-pub is_pairs : (w : List ℕ) → 0 < length w → (length w ≡ 1 → get_or w 0 0 ≡ 45 → ⊥) → hex_in w ≡ pairs_in w
-is_pairs [] h n = absurd (omega arith)
-is_pairs (c ∷ []) h n = let e : eqb c 45 ≡ false = grind (arith, nat_tests) in simp e
-is_pairs (c ∷ d ∷ w) h n = refl
-
-pub is_dash : (w : List ℕ) → length w ≡ 1 → get_or w 0 0 ≡ 45 → hex_in w ≡ Some []
-is_dash [] h n = absurd (omega arith)
-is_dash (c ∷ []) h n = let e : eqb c 45 ≡ true = grind (arith, nat_tests) in simp e
-is_dash (c ∷ d ∷ w) h n = absurd (omega arith)
-
 glyph_digit : (n : ℕ) → digit_glyph false n ≡ digit n
 glyph_digit n = grind (arith, nat_tests)
 
@@ -80,10 +43,6 @@ hex_written b h = hex_byte false b h ∙ (λ i. glyph_digit (b / 16) i ∷ glyph
 
 pub each_more : (f : ℕ → List ℕ) (bs : List ℕ) (i : ℕ) → i < length bs → flat_map f (take i bs) ++ f (get_or bs i 0) ≡ flat_map f (take (i + 1) bs)
 each_more f bs i h = flat_map_more f [] (take i bs) (get_or bs i 0) ∙ ap (flat_map f) (sym (take_more bs i 0 h))
-
-pub hex_some : (bs : List ℕ) → 0 < length bs → flat_map byte_hex bs ≡ hex_text bs
-hex_some [] h = absurd (omega arith)
-hex_some (b ∷ bs) h = refl
 
 -- a digit's number
 pub digit_back : (n : ℕ) → n < 16 → digit_value (digit n) ≡ Some n
