@@ -1,5 +1,5 @@
 -- Escaped bytes can be told apart again.
-use Rattle.std.proofs.Common.{◌≡◌, ℕ, ◌+◌, ◌-◌, ◌*◌, ◌/◌, ◌%◌, ◌^◌, ◌<◌, ◌≤◌, Bool, true, false, cond, eqb, List, [], ◌∷◌, ◌++◌, length, get_or, take, drop, Some, sym, refl, ap, ◌∙◌, subst, codes, append_assoc, arith, lit<, lit≤, length-append, eqb-true}
+use Rattle.std.proofs.Common.{◌≡◌, ℕ, ◌+◌, ◌-◌, ◌/◌, ◌%◌, ◌^◌, ◌<◌, ◌≤◌, Bool, true, false, cond, eqb, List, [], ◌∷◌, ◌++◌, length, get_or, take, drop, sym, refl, ap, ◌∙◌, subst, codes, append_assoc, arith, lit<, lit≤, length-append, eqb-true}
 use borrow.Author.Tests.{eqb-false}
 use Rattle.std.proofs.ByRecursion.{All-append}
 use Rattle.std.proofs.lemmas.Bool.Decides.{nat_tests}
@@ -9,8 +9,8 @@ use Rattle.std.proofs.lemmas.Str.{encode_ascii}
 use Rattle.std.specs.Char.{encode_utf8}
 use Rattle.std.specs.Fmt.{digits, padded_integral, format_spec}
 use Rattle.std.specs.List.{AllByRecursion, flat_map}
-use Rattle.lines.specs.Hex.{digit, digit_value, byte_hex}
-use Rattle.lines.proofs.Hexes.{front_one, digit_back, hex_written}
+use Rattle.lines.specs.Hex.{digit, byte_hex}
+use Rattle.lines.proofs.Hexes.{front_one, hex_written}
 use Rattle.lines.specs.Escape.{plain, escaped_byte, escaped, Bytes, EscapeLaw}
 
 -- a digit is that of one number
