@@ -1,9 +1,10 @@
 -- The commands of the service tool.
-use Rattle.std.specs.Prelude.{ℕ, Bool, cond, not, ◌&&◌, List, length, codes, ◌==◌}
+use Rattle.std.specs.Prelude.{ℕ, Ok, Err, Result, Bool, cond, not, ◌&&◌, List, length, codes, ◌==◌}
 use Rattle.std.specs.Str.{bytes_eq}
 use Rattle.lines.specs.Words.{skip_blanks, word_in, after_word}
 use Rattle.commands.specs.declared.command.Command.{Command}
-use Rattle.commands.specs.declared.command.Command.TheVariants.{Nothing, Types, Dissect, Match, Unknown}
+use Rattle.commands.specs.declared.command.NotUnderstood.{NotUnderstood}
+use Rattle.commands.specs.declared.command.Command.TheVariants.{Nothing, Types, Dissect, Match}
 
 -- what a line asks for
 pub data Asked : Type 0 where
@@ -19,7 +20,11 @@ asked Nothing = nothing
 asked Types = types
 asked (Dissect hex) = dissect hex.now
 asked (Match filter topic) = matching filter.now topic.now
-asked Unknown = unknown
+
+-- a line that is not understood asks for what is unknown
+abbrev pub asked_of : Result Command NotUnderstood → Asked
+asked_of (Ok c) = asked c
+asked_of (Err e) = unknown
 
 -- the first word of a line, and what follows
 abbrev pub word : List ℕ → List ℕ

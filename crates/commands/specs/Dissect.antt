@@ -1,9 +1,10 @@
 -- What a packet is, as a line.
 use Rattle.std.specs.Prelude.{ℕ, Bool, cond, List, [], ◌∷◌, ◌++◌, length, Some, None, Ok, Err, codes, decimal, Option, Result}
+use Rattle.std.specs.List.{flat_map}
 use Rattle.std.specs.Option.{unwrap_or}
 use Rattle.frame.specs.Field.{field_number}
 use Rattle.lines.specs.Escape.{escaped}
-use Rattle.lines.specs.Hex.{each, hex_text}
+use Rattle.lines.specs.Hex.{hex_text}
 use Rattle.packets.specs.declared.packet.ReadError.{ReadError}
 use Rattle.packets.specs.declared.packet.ReadError.TheVariants.{Level, Bad}
 use Rattle.packets.specs.Filters.{Entry}
@@ -30,7 +31,7 @@ abbrev pub code_text : ℕ → List ℕ
 code_text c = codes " " ++ decimal c
 
 abbrev pub codes_text : List ℕ → List ℕ
-codes_text cs = each code_text cs
+codes_text cs = flat_map code_text cs
 
 -- a flag as a number
 abbrev pub bit : Bool → ℕ
@@ -39,6 +40,10 @@ bit b = cond b 1 0
 -- a name and an identifier
 abbrev pub ack_text : List ℕ → ℕ → List ℕ
 ack_text name id = name ++ (decimal id ++ codes "\n")
+
+-- a name, an identifier, and filters with their count
+abbrev pub filters_text : List ℕ → ℕ → List Entry → List ℕ
+filters_text name id es = name ++ (codes " id " ++ (decimal id ++ (codes " filters " ++ (decimal (length es) ++ (entries_text es ++ codes "\n")))))
 
 -- the flags and the identifier of a PUBLISH, 0 where there is none
 abbrev pub publish_head : Bool → Qos → Option ℕ → List ℕ

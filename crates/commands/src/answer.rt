@@ -3,12 +3,11 @@ ghost use Rattle.std.specs.Prelude.{◌≡◌, IfOk, string_bytes};
 ghost use Rattle.lines.specs.Hex.{hex_in};
 ghost use Rattle.commands.specs.Answer.{Answers, MatchAnswer, dissect_answer, not_understood, verdict};
 
-use crate::command::{Command, read_command};
+use crate::command::{Command, NotUnderstood, read_command};
 use crate::dissect::dissect_text;
 use crate::types::types_text;
-use lines::error::LineError;
-use lines::escape::{escape, unescape};
-use lines::hex::read_hex;
+use lines::escape::{Escaped, escaped_bytes};
+use lines::hex::hex_bytes;
 use std::alloc::{AllocError, Global};
 use topics::matching::matches;
 use topics::names::{is_topic_filter, is_topic_name};
@@ -19,11 +18,11 @@ pub fn answer(heap: Global, line: &[u8]) -> Result<String, AllocError>
     ensures answer { IfOk result (λ text. Answers line.now (string_bytes text)) }
 {
     match read_command(line) {
-        Command::Nothing => Ok(String::new(heap)),
-        Command::Types => types_text(heap),
-        Command::Dissect { hex } => dissect_answer(heap, hex, line),
-        Command::Match { filter, topic } => match_answer(heap, filter, topic, line),
-        Command::Unknown => not_understood(heap, line),
+        Ok(Command::Nothing) => Ok(String::new(heap)),
+        Ok(Command::Types) => types_text(heap),
+        Ok(Command::Dissect { hex }) => dissect_answer(heap, hex, line),
+        Ok(Command::Match { filter, topic }) => match_answer(heap, filter, topic, line),
+        Err(NotUnderstood) => not_understood(heap, line),
     }
 }
 
@@ -31,11 +30,10 @@ pub fn answer(heap: Global, line: &[u8]) -> Result<String, AllocError>
 fn dissect_answer(heap: Global, hex: &[u8], line: &[u8]) -> Result<String, AllocError>
     ensures answer { IfOk result (λ text. string_bytes text ≡ dissect_answer (hex_in hex.now) line.now) }
 {
-    match read_hex(heap, hex) {
-        Ok(bytes) => dissect_text(heap, bytes.as_slice()),
-        Err(LineError::Malformed) => not_understood(heap, line),
-        Err(LineError::Memory) => Err(AllocError),
-    }
+    let Some(bytes) = hex_bytes(heap, hex)? else {
+        return not_understood(heap, line);
+    };
+    dissect_text(heap, bytes.as_slice())
 }
 
 // Whether the filter takes the topic, both given as escaped texts.
@@ -47,16 +45,13 @@ fn match_answer(
 ) -> Result<String, AllocError>
     ensures answer { IfOk result (λ text. MatchAnswer filter.now topic.now line.now (string_bytes text)) }
 {
-    match (unescape(heap, filter), unescape(heap, topic)) {
-        (Ok(filter), Ok(topic)) => {
-            let text = String::from_str(heap, judge(filter.as_slice(), topic.as_slice()))?;
-            Ok(text)
-        }
-        (Err(LineError::Malformed), _) | (_, Err(LineError::Malformed)) => not_understood(
-            heap, line,
-        ),
-        _ => Err(AllocError),
-    }
+    let Some(filter) = escaped_bytes(heap, filter)? else {
+        return not_understood(heap, line);
+    };
+    let Some(topic) = escaped_bytes(heap, topic)? else {
+        return not_understood(heap, line);
+    };
+    String::from_str(heap, judge(filter.as_slice(), topic.as_slice()))
 }
 
 // The verdict as a line; the filter is judged first.
@@ -77,6 +72,5 @@ fn judge(filter: &[u8], topic: &[u8]) -> &'static str
 fn not_understood(heap: Global, line: &[u8]) -> Result<String, AllocError>
     ensures answer { IfOk result (λ text. string_bytes text ≡ not_understood line.now) }
 {
-    let text = escape(heap, line)?;
-    format!(in heap; "? {text}\n")
+    format!(in heap; "? {}\n", Escaped(line))
 }

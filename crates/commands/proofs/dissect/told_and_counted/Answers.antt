@@ -3,7 +3,7 @@ use Rattle.std.proofs.lemmas.List.{take_all}
 use Rattle.packets.specs.Filters.{entries_of, entry_of}
 use Rattle.commands.specs.Dissect.{entry_text, entries_text}
 use Rattle.commands.proofs.Entries.{nth-none, nth_some, entries_more, few}
-use Rattle.commands.proofs.dissect.filters_text.Goals as goal
+use Rattle.commands.proofs.dissect.told_and_counted.Goals as goal
 
 pub returns-in_default : goal.returns-in_default
 returns-in_default c =
@@ -17,7 +17,7 @@ loop-index-preserved c =
     let x = entry_of c.in-Some.filter in
     let at = c.in-Some.ensures.answer in
     let low = nth_some c.loop-index.index es x at in
-    (c.in_ok-push_filter.ensures.after ∙ ap (λ l. l ++ entry_text x) c.loop-index.invariant.0 ∙ sym (entries_more c.loop-index.index es x at), omega arith)
+    (c.in_ok-write.ensures.bytes ∙ ap (λ l. l ++ entry_text x) c.loop-index.invariant.0 ∙ sym (entries_more c.loop-index.index es x at), omega arith)
 
 pub returns : goal.returns
 returns c =
