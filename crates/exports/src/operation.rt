@@ -105,10 +105,9 @@ impl Operation {
 fn row_in(pool: &[u8], start: usize, length: usize) -> &[u8]
     ensures answer { result.now ≡ row_in pool.now start length }
 {
-    if start > pool.len() || length > pool.len() - start {
-        return &pool[0..0];
-    }
-    &pool[start..start + length]
+    pool.get(start..)
+        .and_then(|rest| rest.get(..length))
+        .unwrap_or(&[])
 }
 
 // 2^32 and the refusal's number.
