@@ -1,12 +1,16 @@
 -- Escaped bytes can be told apart again.
-use Rattle.std.proofs.Common.{◌≡◌, ℕ, ◌+◌, ◌-◌, ◌*◌, ◌/◌, ◌%◌, ◌<◌, ◌≤◌, Bool, true, false, cond, eqb, List, [], ◌∷◌, ◌++◌, length, get_or, take, drop, Some, sym, refl, ap, ◌∙◌, subst, append_assoc, arith, lit<, lit≤, length-append, eqb-true}
+use Rattle.std.proofs.Common.{◌≡◌, ℕ, ◌+◌, ◌-◌, ◌/◌, ◌%◌, ◌^◌, ◌<◌, ◌≤◌, Bool, true, false, cond, eqb, List, [], ◌∷◌, ◌++◌, length, get_or, take, drop, sym, refl, ap, ◌∙◌, subst, codes, append_assoc, arith, lit<, lit≤, length-append, eqb-true}
 use borrow.Author.Tests.{eqb-false}
 use Rattle.std.proofs.ByRecursion.{All-append}
 use Rattle.std.proofs.lemmas.Bool.Decides.{nat_tests}
 use Rattle.std.proofs.lemmas.List.{append-nil, take_all}
-use Rattle.std.specs.List.{AllByRecursion}
-use Rattle.lines.specs.Hex.{digit, digit_value, byte_hex, each}
-use Rattle.lines.proofs.Hexes.{each_append, front_one, digit_back}
+use Rattle.std.proofs.lemmas.Grind.{flat_map-append}
+use Rattle.std.proofs.lemmas.Str.{encode_ascii}
+use Rattle.std.specs.Char.{encode_utf8}
+use Rattle.std.specs.Fmt.{digits, padded_integral, format_spec}
+use Rattle.std.specs.List.{AllByRecursion, flat_map}
+use Rattle.lines.specs.Hex.{digit, byte_hex}
+use Rattle.lines.proofs.Hexes.{front_one, hex_written}
 use Rattle.lines.specs.Escape.{plain, escaped_byte, escaped, Bytes, EscapeLaw}
 
 -- a digit is that of one number
@@ -21,22 +25,6 @@ same_hex a b p q e =
     let l = same_digit (a % 16) (b % 16) (omega arith) (omega arith) low in
     omega arith
 
--- two digits whose numbers are known are those of one byte
-pub record Known (high low h l b : ℕ) : Type 0 where
-  pub high_is : digit h ≡ high
-  pub low_is : digit l ≡ low
-  pub byte_is : 16 * h + l ≡ b
-
-pub code_known : (high low h l b : ℕ) → Some h ≡ digit_value high → Some l ≡ digit_value low → b < 256 → byte_hex b ≡ high ∷ low ∷ [] → Known high low h l b
-code_known high low h l b eh el p e =
-    let dh : digit (b / 16) ≡ high = ap (λ x. get_or x 0 0) e in
-    let dl : digit (b % 16) ≡ low = ap (λ x. get_or x 1 0) e in
-    let sh : Some h ≡ Some (b / 16) = eh ∙ ap digit_value (sym dh) ∙ digit_back (b / 16) (omega arith) in
-    let sl : Some l ≡ Some (b % 16) = el ∙ ap digit_value (sym dl) ∙ digit_back (b % 16) (omega arith) in
-    let h-is : h ≡ b / 16 = cc in
-    let l-is : l ≡ b % 16 = cc in
-    record { high_is = ap digit h-is ∙ dh; low_is = ap digit l-is ∙ dl; byte_is = omega arith }
-
 pub plain_is : (b : ℕ) → plain b ≡ true → escaped_byte b ≡ b ∷ []
 unfolding escaped_byte
 plain_is b e = simp e
@@ -44,6 +32,13 @@ plain_is b e = simp e
 pub other_is : (b : ℕ) → plain b ≡ false → escaped_byte b ≡ 92 ∷ 120 ∷ byte_hex b
 unfolding escaped_byte
 other_is b e = simp e
+
+-- what is written of a byte that stands for itself, and of any other
+pub plain_written : (b : ℕ) → plain b ≡ true → encode_utf8 b ≡ escaped_byte b
+plain_written b e = encode_ascii b (grind (arith, nat_tests)) ∙ sym (plain_is b e)
+
+pub code_written : (b : ℕ) → b < 256 → plain b ≡ false → codes "\\x" ++ padded_integral (format_spec 32 0 4 2 (2 ^ 64 - 1)) false [] (digits 16 false b) ≡ escaped_byte b
+code_written b h e = ap (λ l. codes "\\x" ++ l) (hex_written b h) ∙ sym (other_is b e)
 
 -- two texts that begin with an escaped byte
 Same : ℕ → ℕ → List ℕ → List ℕ → Type 0
@@ -111,42 +106,42 @@ no_unit text f g b rest h e = no_front text f g b rest h (plain b) refl e
 pub record Left (bs xs rest : List ℕ) : Type 0 where
   pub more : List ℕ
   pub bytes : Bytes more
-  pub spelled : each escaped_byte more ≡ rest
+  pub spelled : flat_map escaped_byte more ≡ rest
   pub whole : bs ≡ xs ++ more
 
-pub left : (bs xs rest : List ℕ) → Bytes bs → Bytes xs → each escaped_byte bs ≡ each escaped_byte xs ++ rest → Left bs xs rest
+pub left : (bs xs rest : List ℕ) → Bytes bs → Bytes xs → flat_map escaped_byte bs ≡ flat_map escaped_byte xs ++ rest → Left bs xs rest
 left bs [] rest b x e = record { more = bs; bytes = b; spelled = e; whole = refl }
 left [] (x ∷ xs) rest b h e =
-    let l : 0 ≡ length ((escaped_byte x ++ each escaped_byte xs) ++ rest) = ap length e in
-    let z : 0 ≡ length (escaped_byte x) + length (each escaped_byte xs) + length rest = l ∙ simp length-append in
+    let l : 0 ≡ length ((escaped_byte x ++ flat_map escaped_byte xs) ++ rest) = ap length e in
+    let z : 0 ≡ length (escaped_byte x) + length (flat_map escaped_byte xs) + length rest = l ∙ simp length-append in
     absurd (omega (arith, unit_some x))
 left (c ∷ bs) (x ∷ xs) rest b h e =
-    let f = same_unit c x (each escaped_byte bs) (each escaped_byte xs ++ rest) b.0 h.0 (e ∙ append_assoc (escaped_byte x) (each escaped_byte xs) rest) in
+    let f = same_unit c x (flat_map escaped_byte bs) (flat_map escaped_byte xs ++ rest) b.0 h.0 (e ∙ append_assoc (escaped_byte x) (flat_map escaped_byte xs) rest) in
     let l = left bs xs rest b.1 h.1 f.1 in
     record { more = l.more; bytes = l.bytes; spelled = l.spelled; whole = λ i. f.0 i ∷ l.whole i }
 
-begins : (more rest : List ℕ) → Bytes more → each escaped_byte more ≡ rest → 0 < length rest
+begins : (more rest : List ℕ) → Bytes more → flat_map escaped_byte more ≡ rest → 0 < length rest
     → ((b : ℕ) (t : List ℕ) → b < 256 → escaped_byte b ++ t ≡ rest → ⊥) → ⊥
 begins [] rest h e some none = let z = ap length e in omega arith
-begins (b ∷ more) rest h e some none = none b (each escaped_byte more) h.0 e
+begins (b ∷ more) rest h e some none = none b (flat_map escaped_byte more) h.0 e
 
 -- what is left begins with no escaped byte, so the text is written of no bytes
-pub no_bytes : (text bs xs rest : List ℕ) → Bytes bs → Bytes xs → each escaped_byte xs ++ rest ≡ text → 0 < length rest
-    → ((b : ℕ) (t : List ℕ) → b < 256 → escaped_byte b ++ t ≡ rest → ⊥) → each escaped_byte bs ≡ text → ⊥
+pub no_bytes : (text bs xs rest : List ℕ) → Bytes bs → Bytes xs → flat_map escaped_byte xs ++ rest ≡ text → 0 < length rest
+    → ((b : ℕ) (t : List ℕ) → b < 256 → escaped_byte b ++ t ≡ rest → ⊥) → flat_map escaped_byte bs ≡ text → ⊥
 no_bytes text bs xs rest hb hx e some none w =
     let l = left bs xs rest hb hx (w ∙ sym e) in
     begins l.more rest l.bytes l.spelled some none
 
 -- one escaped byte more
-pub spelled_more : (xs : List ℕ) (b : ℕ) (rest more text : List ℕ) → escaped_byte b ++ more ≡ rest → each escaped_byte xs ++ rest ≡ text
-    → each escaped_byte (xs ++ b ∷ []) ++ more ≡ text
+pub spelled_more : (xs : List ℕ) (b : ℕ) (rest more text : List ℕ) → escaped_byte b ++ more ≡ rest → flat_map escaped_byte xs ++ rest ≡ text
+    → flat_map escaped_byte (xs ++ b ∷ []) ++ more ≡ text
 spelled_more xs b rest more text e f =
-    ap (λ l. l ++ more) (each_append escaped_byte xs (b ∷ []) ∙ ap (λ l. each escaped_byte xs ++ l) (append-nil (escaped_byte b)))
-    ∙ append_assoc (each escaped_byte xs) (escaped_byte b) more ∙ ap (λ l. each escaped_byte xs ++ l) e ∙ f
+    ap (λ l. l ++ more) (flat_map-append escaped_byte xs (b ∷ []) ∙ ap (λ l. flat_map escaped_byte xs ++ l) (append-nil (escaped_byte b)))
+    ∙ append_assoc (flat_map escaped_byte xs) (escaped_byte b) more ∙ ap (λ l. flat_map escaped_byte xs ++ l) e ∙ f
 
 -- nothing is left
-pub all_spelled : (xs rest text : List ℕ) → length rest ≡ 0 → each escaped_byte xs ++ rest ≡ text → each escaped_byte xs ≡ text
-all_spelled xs [] text h e = sym (append-nil (each escaped_byte xs)) ∙ e
+pub all_spelled : (xs rest text : List ℕ) → length rest ≡ 0 → flat_map escaped_byte xs ++ rest ≡ text → flat_map escaped_byte xs ≡ text
+all_spelled xs [] text h e = sym (append-nil (flat_map escaped_byte xs)) ∙ e
 all_spelled xs (c ∷ rest) text h e = absurd (omega arith)
 
 pub unit_shorter : (b : ℕ) (more rest : List ℕ) → escaped_byte b ++ more ≡ rest → length more < length rest
@@ -154,20 +149,20 @@ unit_shorter b more rest e =
     let l : length (escaped_byte b) + length more ≡ length rest = sym (length-append (escaped_byte b) more) ∙ ap length e in
     omega (arith, unit_some b)
 
-rest_none : (xs more : List ℕ) → each escaped_byte more ≡ [] → xs ++ more ≡ xs
+rest_none : (xs more : List ℕ) → flat_map escaped_byte more ≡ [] → xs ++ more ≡ xs
 rest_none xs [] e = append-nil xs
 rest_none xs (b ∷ more) e =
-    let z : length (escaped_byte b) + length (each escaped_byte more) ≡ 0 = sym (length-append (escaped_byte b) (each escaped_byte more)) ∙ ap length e in
+    let z : length (escaped_byte b) + length (flat_map escaped_byte more) ≡ 0 = sym (length-append (escaped_byte b) (flat_map escaped_byte more)) ∙ ap length e in
     absurd (omega (arith, unit_some b))
 
 -- two runs of bytes with one spelling are one
-same_spelled : (bs cs : List ℕ) → Bytes bs → Bytes cs → each escaped_byte bs ≡ each escaped_byte cs → bs ≡ cs
+same_spelled : (bs cs : List ℕ) → Bytes bs → Bytes cs → flat_map escaped_byte bs ≡ flat_map escaped_byte cs → bs ≡ cs
 same_spelled bs cs hb hc e =
-    let l = left bs cs [] hb hc (e ∙ sym (append-nil (each escaped_byte cs))) in
+    let l = left bs cs [] hb hc (e ∙ sym (append-nil (flat_map escaped_byte cs))) in
     l.whole ∙ rest_none cs l.more l.spelled
 
 -- no byte but `-` is spelled `-`
-pub is_dash : (bs : List ℕ) → Bytes bs → each escaped_byte bs ≡ 45 ∷ [] → bs ≡ 45 ∷ []
+pub is_dash : (bs : List ℕ) → Bytes bs → flat_map escaped_byte bs ≡ 45 ∷ [] → bs ≡ 45 ∷ []
 is_dash bs h e = same_spelled bs (45 ∷ []) h (lit< tt, tt) (e ∙ sym (ap (λ l. l ++ []) (plain_is 45 refl)))
 
 code_by : (b : ℕ) (t : List ℕ) → b < 256 → (v : Bool) → plain b ≡ v → cond v (b ∷ []) (92 ∷ 120 ∷ byte_hex b) ++ t ≡ 92 ∷ 120 ∷ 50 ∷ 100 ∷ [] → ⊥
@@ -177,16 +172,16 @@ code_by b t h false ev e =
     grind (arith, nat_tests)
 
 -- no bytes are spelled `\\x2d`
-pub no_code : (bs : List ℕ) → Bytes bs → each escaped_byte bs ≡ 92 ∷ 120 ∷ 50 ∷ 100 ∷ [] → ⊥
+pub no_code : (bs : List ℕ) → Bytes bs → flat_map escaped_byte bs ≡ 92 ∷ 120 ∷ 50 ∷ 100 ∷ [] → ⊥
 unfolding escaped_byte
 no_code [] h e = let z = ap length e in omega arith
-no_code (b ∷ bs) h e = code_by b (each escaped_byte bs) h.0 (plain b) refl e
+no_code (b ∷ bs) h e = code_by b (flat_map escaped_byte bs) h.0 (plain b) refl e
 
 -- no bytes, a lone `-`, or bytes each of which is escaped
 pub data Way (bs : List ℕ) : Type 0 where
   none : bs ≡ [] → Way bs
   lone : bs ≡ 45 ∷ [] → Way bs
-  spelled : escaped bs ≡ each escaped_byte bs → (bs ≡ [] → ⊥) → (bs ≡ 45 ∷ [] → ⊥) → Way bs
+  spelled : escaped bs ≡ flat_map escaped_byte bs → (bs ≡ [] → ⊥) → (bs ≡ 45 ∷ [] → ⊥) → Way bs
 
 way_by : (b : ℕ) (v : Bool) → eqb b 45 ≡ v → Way (b ∷ [])
 way_by b true e = lone (ap (λ x. x ∷ []) (eqb-true b 45 e))
@@ -222,14 +217,14 @@ unit_prints b true h e = ((grind (arith, nat_tests), grind (arith, nat_tests)), 
 unit_prints b false h e =
     ((lit≤ tt, lit≤ tt), ((lit≤ tt, lit≤ tt), (digit_prints (b / 16) (omega arith), (digit_prints (b % 16) (omega arith), tt))))
 
-each_prints : (bs : List ℕ) → Bytes bs → AllByRecursion Printable (each escaped_byte bs)
+each_prints : (bs : List ℕ) → Bytes bs → AllByRecursion Printable (flat_map escaped_byte bs)
 unfolding escaped_byte
 each_prints [] h = tt
-each_prints (b ∷ bs) h = All-append Printable (escaped_byte b) (each escaped_byte bs) (unit_prints b (plain b) h.0 refl) (each_prints bs h.1)
+each_prints (b ∷ bs) h = All-append Printable (escaped_byte b) (flat_map escaped_byte bs) (unit_prints b (plain b) h.0 refl) (each_prints bs h.1)
 
-some_spelled : (bs : List ℕ) → (bs ≡ [] → ⊥) → 0 < length (each escaped_byte bs)
+some_spelled : (bs : List ℕ) → (bs ≡ [] → ⊥) → 0 < length (flat_map escaped_byte bs)
 some_spelled [] n = absurd (n refl)
-some_spelled (b ∷ bs) n = let l = length-append (escaped_byte b) (each escaped_byte bs) in omega (arith, unit_some b)
+some_spelled (b ∷ bs) n = let l = length-append (escaped_byte b) (flat_map escaped_byte bs) in omega (arith, unit_some b)
 
 prints_by : (bs : List ℕ) → Bytes bs → Way bs → (0 < length (escaped bs)) × AllByRecursion Printable (escaped bs)
 unfolding Printable
@@ -248,20 +243,20 @@ escape_law = record {
 
 -- a text other than the two words is read byte by byte
 module _ (text : List ℕ) (not_none : 0 < length text) (not_dash : text ≡ 45 ∷ [] → ⊥) (not_code : text ≡ 92 ∷ 120 ∷ 50 ∷ 100 ∷ [] → ⊥) where
-  read_by : (bs : List ℕ) → each escaped_byte bs ≡ text → Way bs → escaped bs ≡ text
-  read_by bs e (none p) = let z = ap length (sym e ∙ ap (each escaped_byte) p) in absurd (omega arith)
-  read_by bs e (lone p) = absurd (not_dash (sym e ∙ ap (each escaped_byte) p ∙ ap (λ l. l ++ []) (plain_is 45 refl)))
+  read_by : (bs : List ℕ) → flat_map escaped_byte bs ≡ text → Way bs → escaped bs ≡ text
+  read_by bs e (none p) = let z = ap length (sym e ∙ ap (flat_map escaped_byte) p) in absurd (omega arith)
+  read_by bs e (lone p) = absurd (not_dash (sym e ∙ ap (flat_map escaped_byte) p ∙ ap (λ l. l ++ []) (plain_is 45 refl)))
   read_by bs e (spelled w n d) = w ∙ e
 
-  pub read-each : (bs : List ℕ) → each escaped_byte bs ≡ text → escaped bs ≡ text
+  pub read-each : (bs : List ℕ) → flat_map escaped_byte bs ≡ text → escaped bs ≡ text
   read-each bs e = read_by bs e (way bs)
 
-  none_by : (bs : List ℕ) → (each escaped_byte bs ≡ text → ⊥) → escaped bs ≡ text → Way bs → ⊥
+  none_by : (bs : List ℕ) → (flat_map escaped_byte bs ≡ text → ⊥) → escaped bs ≡ text → Way bs → ⊥
   none_by bs f e (none p) = not_dash (sym e ∙ ap escaped p)
   none_by bs f e (lone p) = not_code (sym e ∙ ap escaped p)
   none_by bs f e (spelled w n d) = f (sym w ∙ e)
 
-  pub none_each : (bs : List ℕ) → (each escaped_byte bs ≡ text → ⊥) → escaped bs ≡ text → ⊥
+  pub none_each : (bs : List ℕ) → (flat_map escaped_byte bs ≡ text → ⊥) → escaped bs ≡ text → ⊥
   none_each bs f e = none_by bs f e (way bs)
 
 -- no text that is written is empty

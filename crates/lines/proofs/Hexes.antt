@@ -1,9 +1,11 @@
 -- Hexadecimal digits, two by two.
-use Rattle.std.proofs.Common.{◌≡◌, ℕ, ◌+◌, ◌-◌, ◌*◌, ◌/◌, ◌%◌, ◌<◌, ◌≤◌, true, false, eqb, List, [], ◌∷◌, ◌++◌, length, get_or, take, drop, Some, None, Option, sym, refl, ap, ◌∙◌, append_assoc, arith}
-use Rattle.std.proofs.lemmas.List.{append-nil, take_more, take_all}
+use Rattle.std.proofs.Common.{◌≡◌, ℕ, ◌+◌, ◌-◌, ◌*◌, ◌/◌, ◌%◌, ◌^◌, ◌<◌, ◌≤◌, false, List, [], ◌∷◌, ◌++◌, length, get_or, take, drop, Some, None, Option, sym, refl, ap, ◌∙◌, append_assoc, arith}
+use Rattle.std.proofs.lemmas.List.{take_more, take_all, flat_map_more}
+use Rattle.std.proofs.lemmas.Fmt.{hex_byte}
+use Rattle.std.specs.Fmt.{digits, digit_glyph, padded_integral, format_spec}
 use Rattle.std.proofs.lemmas.Bool.Decides.{nat_tests}
-use Rattle.std.specs.List.{AllByRecursion}
-use Rattle.lines.specs.Hex.{digit, byte_hex, each, hex_text, digit_value, byte_before, pairs_in, hex_in, HexLaw}
+use Rattle.std.specs.List.{AllByRecursion, flat_map}
+use Rattle.lines.specs.Hex.{digit, byte_hex, digit_value, byte_before, pairs_in, HexLaw}
 
 -- a list by its first element and the rest, as a slice pattern has them
 pub front_one : (xs : List ℕ) → 1 ≤ length xs → xs ≡ get_or xs 0 0 ∷ take (length xs - 1) (drop 1 xs)
@@ -14,10 +16,6 @@ front_one (a ∷ xs) h = ap (λ l. a ∷ l) (sym (take_all _ xs (omega arith)))
 abbrev pub prepend : List ℕ → Option (List ℕ) → Option (List ℕ)
 prepend xs None = None
 prepend xs (Some ys) = Some (xs ++ ys)
-
-pub prepend_none : (r : Option (List ℕ)) → prepend [] r ≡ r
-prepend_none None = refl
-prepend_none (Some ys) = refl
 
 prepend_byte : (xs : List ℕ) (a b : ℕ) (r : Option (List ℕ)) → prepend xs (byte_before (Some a) (Some b) r) ≡ prepend (xs ++ (16 * a + b) ∷ []) r
 prepend_byte xs a b None = refl
@@ -36,57 +34,21 @@ before-none : (h : Option ℕ) (r : Option (List ℕ)) → byte_before h None r 
 before-none None r = refl
 before-none (Some a) r = refl
 
--- a character that is no digit
-pub no_high : (xs rest : List ℕ) (r : Option (List ℕ)) → 2 ≤ length rest → None ≡ digit_value (get_or rest 0 0) → prepend xs (pairs_in rest) ≡ r → r ≡ None
-no_high xs [] r h ea e = absurd (omega arith)
-no_high xs (c ∷ []) r h ea e = absurd (omega arith)
-no_high xs (c ∷ d ∷ rest) r h ea e = sym e ∙ ap (λ o. prepend xs (byte_before o (digit_value d) (pairs_in rest))) (sym ea)
+glyph_digit : (n : ℕ) → digit_glyph false n ≡ digit n
+glyph_digit n = grind (arith, nat_tests)
 
-pub no_low : (xs rest : List ℕ) (r : Option (List ℕ)) → 2 ≤ length rest → None ≡ digit_value (get_or rest 1 0) → prepend xs (pairs_in rest) ≡ r → r ≡ None
-no_low xs [] r h ea e = absurd (omega arith)
-no_low xs (c ∷ []) r h ea e = absurd (omega arith)
-no_low xs (c ∷ d ∷ rest) r h ea e =
-    sym e ∙ ap (λ o. prepend xs (byte_before (digit_value c) o (pairs_in rest))) (sym ea) ∙ ap (prepend xs) (before-none (digit_value c) (pairs_in rest))
+-- what is written of a byte with two places and zeros, and of the first bytes and one more
+pub hex_written : (b : ℕ) → b < 256 → padded_integral (format_spec 32 0 4 2 (2 ^ 64 - 1)) false [] (digits 16 false b) ≡ byte_hex b
+hex_written b h = hex_byte false b h ∙ (λ i. glyph_digit (b / 16) i ∷ glyph_digit (b % 16) i ∷ [])
 
--- one digit is left over
-pub one_left : (xs rest : List ℕ) (r : Option (List ℕ)) → length rest < 2 → 0 < length rest → prepend xs (pairs_in rest) ≡ r → r ≡ None
-one_left xs [] r h n e = absurd (omega arith)
-one_left xs (c ∷ []) r h n e = sym e
-one_left xs (c ∷ d ∷ rest) r h n e = absurd (omega arith)
-
-pub all_read : (xs rest : List ℕ) (r : Option (List ℕ)) → length rest ≡ 0 → prepend xs (pairs_in rest) ≡ r → r ≡ Some xs
-all_read xs [] r h e = sym e ∙ ap (λ l. Some l) (append-nil xs)
-all_read xs (c ∷ rest) r h e = absurd (omega arith)
-
--- a word that is neither empty nor `-` is read two by two
-pub is_pairs : (w : List ℕ) → 0 < length w → (length w ≡ 1 → get_or w 0 0 ≡ 45 → ⊥) → hex_in w ≡ pairs_in w
-is_pairs [] h n = absurd (omega arith)
-is_pairs (c ∷ []) h n = let e : eqb c 45 ≡ false = grind (arith, nat_tests) in simp e
-is_pairs (c ∷ d ∷ w) h n = refl
-
-pub is_dash : (w : List ℕ) → length w ≡ 1 → get_or w 0 0 ≡ 45 → hex_in w ≡ Some []
-is_dash [] h n = absurd (omega arith)
-is_dash (c ∷ []) h n = let e : eqb c 45 ≡ true = grind (arith, nat_tests) in simp e
-is_dash (c ∷ d ∷ w) h n = absurd (omega arith)
-
--- what is written of the first bytes, and of one more
-pub each_append : (f : ℕ → List ℕ) (xs ys : List ℕ) → each f (xs ++ ys) ≡ each f xs ++ each f ys
-each_append f [] ys = refl
-each_append f (x ∷ xs) ys = ap (λ l. f x ++ l) (each_append f xs ys) ∙ sym (append_assoc (f x) (each f xs) (each f ys))
-
-pub each_more : (f : ℕ → List ℕ) (bs : List ℕ) (i : ℕ) → i < length bs → each f (take (i + 1) bs) ≡ each f (take i bs) ++ f (get_or bs i 0)
-each_more f bs i h =
-    ap (each f) (take_more bs i 0 h) ∙ each_append f (take i bs) (get_or bs i 0 ∷ []) ∙ ap (λ l. each f (take i bs) ++ l) (append-nil (f (get_or bs i 0)))
-
-pub hex_some : (bs : List ℕ) → 0 < length bs → each byte_hex bs ≡ hex_text bs
-hex_some [] h = absurd (omega arith)
-hex_some (b ∷ bs) h = refl
+pub each_more : (f : ℕ → List ℕ) (bs : List ℕ) (i : ℕ) → i < length bs → flat_map f (take i bs) ++ f (get_or bs i 0) ≡ flat_map f (take (i + 1) bs)
+each_more f bs i h = flat_map_more f [] (take i bs) (get_or bs i 0) ∙ ap (flat_map f) (sym (take_more bs i 0 h))
 
 -- a digit's number
 pub digit_back : (n : ℕ) → n < 16 → digit_value (digit n) ≡ Some n
 digit_back n h = grind (arith, nat_tests)
 
-pairs_back : (bs : List ℕ) → AllByRecursion (λ b. b < 256) bs → pairs_in (each byte_hex bs) ≡ Some bs
+pairs_back : (bs : List ℕ) → AllByRecursion (λ b. b < 256) bs → pairs_in (flat_map byte_hex bs) ≡ Some bs
 pairs_back [] a = refl
 pairs_back (b ∷ bs) a =
     let high = digit_back (b / 16) (omega arith) in

@@ -2,10 +2,10 @@
 use Rattle.std.specs.Prelude.{◌≡◌, ℕ, ◌<◌, ◌≤◌, Bool, false, cond, not, ◌&&◌, List, [], ◌∷◌, ◌++◌, length, Some, None, Ok, Err, vec_items, codes, Option, Result, Vec, ◌==◌, ◌≢◌, nat_le}
 use Rattle.std.specs.Borrow.{Bor}
 use Rattle.std.specs.declared.alloc.Global.{Global}
-use Rattle.std.specs.List.{AllByRecursion}
+use Rattle.std.specs.List.{AllByRecursion, flat_map}
 use Rattle.lines.specs.declared.error.LineError.{LineError}
 use Rattle.lines.specs.declared.error.LineError.TheVariants.{Malformed, Memory}
-use Rattle.lines.specs.Hex.{byte_hex, each}
+use Rattle.lines.specs.Hex.{byte_hex}
 
 -- the bytes 0x21 to 0x7e but the backslash stand for themselves
 abbrev pub plain : ℕ → Bool
@@ -18,8 +18,8 @@ escaped_byte b = cond (plain b) (b ∷ []) (92 ∷ 120 ∷ byte_hex b)
 -- no bytes are `-`, a lone `-` is `\x2d`, and else each byte is escaped
 abbrev pub escaped : List ℕ → List ℕ
 escaped [] = codes "-"
-escaped (b ∷ []) = cond (b == 45) (codes "\\x2d") (each escaped_byte (b ∷ []))
-escaped (b ∷ c ∷ bs) = each escaped_byte (b ∷ c ∷ bs)
+escaped (b ∷ []) = cond (b == 45) (codes "\\x2d") (flat_map escaped_byte (b ∷ []))
+escaped (b ∷ c ∷ bs) = flat_map escaped_byte (b ∷ c ∷ bs)
 
 -- all are bytes
 abbrev pub Bytes : List ℕ → Type 0
@@ -31,13 +31,14 @@ Inverse write text (Ok bytes) = (write (vec_items bytes) ≡ text) × Bytes (vec
 Inverse write text (Err Malformed) = (bs : List ℕ) → Bytes bs → write bs ≢ text
 Inverse write text (Err Memory) = Unit {0}
 
+-- the same where there is memory for what is read
+abbrev pub Undoes : (List ℕ → List ℕ) → List ℕ → Option (Vec ℕ Global) → Type 0
+Undoes write text (Some bytes) = (write (vec_items bytes) ≡ text) × Bytes (vec_items bytes)
+Undoes write text None = (bs : List ℕ) → Bytes bs → write bs ≢ text
+
 -- just what is written is read
 abbrev pub Unescaped : List ℕ → Result (Vec ℕ Global) LineError → Type 0
 Unescaped text r = Inverse escaped text r
-
--- the same where each byte is escaped
-abbrev pub Spelled : List ℕ → Result (Vec ℕ Global) LineError → Type 0
-Spelled text r = Inverse (each escaped_byte) text r
 
 -- the byte that was escaped at the front of a text, and what follows
 abbrev pub UnitIn : List ℕ → Option (ℕ × Bor (List ℕ)) → Type 0

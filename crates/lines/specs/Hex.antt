@@ -1,7 +1,7 @@
 -- Bytes in hexadecimal.
-use Rattle.std.specs.Prelude.{◌≡◌, ℕ, ◌+◌, ◌-◌, ◌*◌, ◌/◌, ◌%◌, ◌<◌, cond, ◌&&◌, List, [], ◌∷◌, ◌++◌, Some, None, Ok, Err, vec_items, Option, Result, Vec, ◌==◌, nat_le, nat_lt}
+use Rattle.std.specs.Prelude.{◌≡◌, ℕ, ◌+◌, ◌-◌, ◌*◌, ◌/◌, ◌%◌, ◌<◌, cond, ◌&&◌, List, [], ◌∷◌, Some, None, Ok, Err, vec_items, Option, Result, Vec, ◌==◌, nat_le, nat_lt}
 use Rattle.std.specs.declared.alloc.Global.{Global}
-use Rattle.std.specs.List.{AllByRecursion}
+use Rattle.std.specs.List.{AllByRecursion, flat_map}
 use Rattle.lines.specs.declared.error.LineError.{LineError}
 use Rattle.lines.specs.declared.error.LineError.TheVariants.{Malformed, Memory}
 
@@ -13,15 +13,10 @@ digit n = cond (nat_lt n 10) (48 + n) (97 + (n - 10))
 abbrev pub byte_hex : ℕ → List ℕ
 byte_hex b = digit (b / 16) ∷ digit (b % 16) ∷ []
 
--- what is written of each byte, one after the other
-abbrev pub each : (ℕ → List ℕ) → List ℕ → List ℕ
-each f [] = []
-each f (b ∷ bs) = f b ++ each f bs
-
 -- the digits of some bytes, and `-` where there are none
 abbrev pub hex_text : List ℕ → List ℕ
 hex_text [] = 45 ∷ []
-hex_text (b ∷ bs) = each byte_hex (b ∷ bs)
+hex_text (b ∷ bs) = flat_map byte_hex (b ∷ bs)
 
 -- the number of a digit of either case
 abbrev pub digit_value : ℕ → Option ℕ
@@ -52,6 +47,11 @@ abbrev pub hex_in : List ℕ → Option (List ℕ)
 hex_in [] = None
 hex_in (c ∷ []) = cond (c == 45) (Some []) None
 hex_in (h ∷ l ∷ rest) = pairs_in (h ∷ l ∷ rest)
+
+-- the bytes that are answered, if any
+abbrev pub bytes_read : Option (Vec ℕ Global) → Option (List ℕ)
+bytes_read None = None
+bytes_read (Some bytes) = Some (vec_items bytes)
 
 -- the bytes that a definition gives are answered, and a word of which it gives none is malformed
 abbrev pub Read : Option (List ℕ) → Result (Vec ℕ Global) LineError → Type 0

@@ -7,16 +7,10 @@ use std::str::from_utf8;
 pub fn read_decimal(word: &[u8]) -> Option<u32>
     ensures answer { Reads word.now result }
 {
-    if let [b'+', ..] = word {
+    if word.starts_with(b"+") {
         return None;
     }
-    let Ok(text) = from_utf8(word) else {
-        return None;
-    };
-    match text.parse::<u32>() {
-        Ok(number) => Some(number),
-        Err(_) => None,
-    }
+    from_utf8(word).ok()?.parse().ok()
 }
 
 // What is printed of any number below 2^32 is a word that is read as that number.

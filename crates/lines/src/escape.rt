@@ -1,38 +1,39 @@
 // Escaped text: bytes 0x21 to 0x7e but the backslash stand for themselves, any other byte is `\xHH` in lower
 // case; no bytes at all are `-`, and a lone `-` is `\x2d`.
-ghost use Rattle.std.specs.Prelude.{◌≡◌, ◌++◌, IfOk, string_bytes, OnOk};
-ghost use Rattle.lines.specs.Hex.{each};
-ghost use Rattle.lines.specs.Escape.{plain, escaped_byte, escaped, Unescaped, Spelled, UnitIn, CodeOf, EscapeLaw};
+ghost use Rattle.std.specs.Prelude.{◌≡◌, Some, IfOk, string_bytes};
+ghost use Rattle.std.specs.List.{flat_map};
+ghost use Rattle.lines.specs.Escape.{plain, escaped_byte, escaped, Undoes, Unescaped, UnitIn, CodeOf, EscapeLaw};
 
 use crate::error::LineError;
-use crate::hex::{digit_of, push_byte, value_of};
+use crate::hex::value_of;
 use std::alloc::{AllocError, Global};
+use std::fmt;
 
 // The bytes as escaped text, or the error that there is no memory for it.
 pub fn escape(heap: Global, bytes: &[u8]) -> Result<String, AllocError>
     ensures answer { IfOk result (λ text. string_bytes text ≡ escaped bytes.now) }
 {
-    match bytes {
-        [] => String::from_str(heap, "-"),
-        [b'-'] => String::from_str(heap, "\\x2d"),
-        _ => escape_each(heap, bytes),
-    }
+    Escaped(bytes).to_string(heap)
 }
 
 // The bytes of which a text is the escaped text; a text that is written of no bytes is refused.
 pub fn unescape(heap: Global, text: &[u8]) -> Result<Vec<u8>, LineError>
     ensures answer { Unescaped text.now result }
 {
-    if text.is_empty() {
-        return Err(LineError::Malformed);
+    escaped_bytes(heap, text)?.ok_or(LineError::Malformed)
+}
+
+// The bytes of which a text is the escaped text, none where it is written of no bytes, or the error that there is
+// no memory for them.
+pub fn escaped_bytes(heap: Global, text: &[u8]) -> Result<Option<Vec<u8>>, AllocError>
+    ensures answer { IfOk result (Undoes escaped text.now) }
+{
+    match text {
+        [] => Ok(None),
+        b"-" => Ok(Some(Vec::new(heap))),
+        b"\\x2d" => Ok(Some(vec![in heap; b'-']?)),
+        _ => unescape_each(heap, text),
     }
-    if text == b"-".as_slice() {
-        return Ok(Vec::new(heap));
-    }
-    if text == b"\\x2d".as_slice() {
-        return Ok(vec![in heap; b'-']?);
-    }
-    unescape_each(heap, text)
 }
 
 // What is written of some bytes is written of no other bytes, and is one word of printable characters.
@@ -44,47 +45,62 @@ pub fn escape_law()
 fn is_plain(byte: u8) -> bool
     ensures answer { result ≡ plain byte }
 {
-    byte >= 0x21 && byte <= 0x7e && byte != b'\\'
+    byte.is_ascii_graphic() && byte != b'\\'
 }
 
-// Each byte escaped, one after the other.
-fn escape_each(heap: Global, bytes: &[u8]) -> Result<String, AllocError>
-    ensures answer { IfOk result (λ text. string_bytes text ≡ each escaped_byte bytes.now) }
-{
-    let mut text = String::new(heap);
-    for byte in bytes {
-        push_escaped(&mut text, *byte)?;
+// Bytes that are shown as escaped text.
+#[derive(Clone, Copy)]
+pub struct Escaped<'a>(pub &'a [u8]);
+
+impl fmt::Display for Escaped<'_> {
+    ghost output = { λ text. Some (escaped text.0.now) };
+
+    fn fmt<W: fmt::Write>(&self, f: &mut fmt::Formatter<W>) -> fmt::Result {
+        match self.0 {
+            [] => write!(f, "-"),
+            b"-" => write!(f, "\\x2d"),
+            bytes => {
+                // As in `Hex`: a `for` and a `write!` are no longer than a call that takes them as a closure.
+                for &byte in bytes {
+                    write!(f, "{}", EscapedByte(byte))?;
+                }
+                Ok(())
+            }
+        }
     }
-    Ok(text)
 }
 
-// One byte escaped, at the end of a text.
-fn push_escaped(text: &mut String, byte: u8) -> Result<(), AllocError>
-    ensures after { OnOk result (string_bytes text.new ≡ string_bytes text.old ++ escaped_byte byte) }
-{
-    if is_plain(byte) {
-        text.push(byte as char)?;
-        return Ok(());
+// One byte of an escaped text.
+#[derive(Clone, Copy)]
+struct EscapedByte(u8);
+
+impl fmt::Display for EscapedByte {
+    ghost output = { λ byte. Some (escaped_byte byte.0) };
+
+    fn fmt<W: fmt::Write>(&self, f: &mut fmt::Formatter<W>) -> fmt::Result {
+        let byte = self.0;
+        if is_plain(byte) {
+            write!(f, "{}", char::from(byte))
+        } else {
+            write!(f, "\\x{byte:02x}")
+        }
     }
-    text.push_str("\\x")?;
-    push_byte(text, byte)?;
-    Ok(())
 }
 
 // The bytes of which each was escaped, one after the other.
-fn unescape_each(heap: Global, text: &[u8]) -> Result<Vec<u8>, LineError>
-    ensures answer { Spelled text.now result }
+fn unescape_each(heap: Global, text: &[u8]) -> Result<Option<Vec<u8>>, AllocError>
+    ensures answer { IfOk result (Undoes (flat_map escaped_byte) text.now) }
 {
     let mut bytes = Vec::new(heap);
     let mut rest = text;
     while !rest.is_empty() {
         let Some((byte, more)) = read_unit(rest) else {
-            return Err(LineError::Malformed);
+            return Ok(None);
         };
         bytes.push(byte)?;
         rest = more;
     }
-    Ok(bytes)
+    Ok(Some(bytes))
 }
 
 // The byte that was escaped first, and what follows.
@@ -93,10 +109,7 @@ fn read_unit(text: &[u8]) -> Option<(u8, &[u8])>
 {
     match text {
         [byte, rest @ ..] if is_plain(*byte) => Some((*byte, rest)),
-        [b'\\', b'x', high, low, rest @ ..] => match read_code(*high, *low) {
-            Some(byte) => Some((byte, rest)),
-            None => None,
-        },
+        [b'\\', b'x', high, low, rest @ ..] => Some((read_code(*high, *low)?, rest)),
         _ => None,
     }
 }
@@ -105,11 +118,8 @@ fn read_unit(text: &[u8]) -> Option<(u8, &[u8])>
 fn read_code(high: u8, low: u8) -> Option<u8>
     ensures answer { CodeOf high low result }
 {
-    let (Some(h), Some(l)) = (value_of(high), value_of(low)) else {
-        return None;
-    };
-    let byte = 16 * h + l;
-    if digit_of(h) != high || digit_of(l) != low || is_plain(byte) {
+    let byte = (16 * value_of(high)? + value_of(low)?) as u8;
+    if high.is_ascii_uppercase() || low.is_ascii_uppercase() || is_plain(byte) {
         return None;
     }
     Some(byte)

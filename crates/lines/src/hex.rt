@@ -1,53 +1,75 @@
 // Bytes in hexadecimal: two digits each, or `-` for no bytes.
-ghost use Rattle.std.specs.Prelude.{◌≡◌, ◌/◌, ◌%◌, ◌<◌, cond, [], ◌∷◌, ◌++◌, is_ok, IfOk, string_bytes, OnOk};
-ghost use Rattle.lines.specs.Hex.{digit, digit_value, byte_hex, hex_text, pairs_in, hex_in, Read, Below16, HexLaw};
+ghost use Rattle.std.specs.Prelude.{◌≡◌, Some, IfOk, string_bytes};
+ghost use Rattle.lines.specs.Hex.{digit_value, hex_text, pairs_in, hex_in, bytes_read, Read, Below16, HexLaw};
 
 use crate::error::LineError;
 use std::alloc::{AllocError, Global};
+use std::fmt;
 
 // The bytes that a word of hexadecimal digits of either case writes; a word with another character or an odd
 // number of digits is refused.
 pub fn read_hex(heap: Global, word: &[u8]) -> Result<Vec<u8>, LineError>
     ensures answer { Read (hex_in word.now) result }
 {
+    hex_bytes(heap, word)?.ok_or(LineError::Malformed)
+}
+
+// The bytes that a word of hexadecimal digits of either case writes, none where it has another character or an
+// odd number of digits, or the error that there is no memory for them.
+pub fn hex_bytes(heap: Global, word: &[u8]) -> Result<Option<Vec<u8>>, AllocError>
+    ensures answer { IfOk result (λ read. bytes_read read ≡ hex_in word.now) }
+{
     match word {
-        [] => Err(LineError::Malformed),
-        [b'-'] => Ok(Vec::new(heap)),
+        [] => Ok(None),
+        [b'-'] => Ok(Some(Vec::new(heap))),
         _ => read_pairs(heap, word),
     }
 }
 
 // The bytes of digits, two by two.
-fn read_pairs(heap: Global, digits: &[u8]) -> Result<Vec<u8>, LineError>
-    ensures answer { Read (pairs_in digits.now) result }
+fn read_pairs(heap: Global, digits: &[u8]) -> Result<Option<Vec<u8>>, AllocError>
+    ensures answer { IfOk result (λ read. bytes_read read ≡ pairs_in digits.now) }
 {
     let mut bytes = Vec::new(heap);
     let mut rest = digits;
     while let [high, low, more @ ..] = rest {
         let (Some(high), Some(low)) = (value_of(*high), value_of(*low)) else {
-            return Err(LineError::Malformed);
+            return Ok(None);
         };
-        bytes.push(16 * high + low)?;
+        bytes.push((16 * high + low) as u8)?;
         rest = more;
     }
     if !rest.is_empty() {
-        return Err(LineError::Malformed);
+        return Ok(None);
     }
-    Ok(bytes)
+    Ok(Some(bytes))
 }
 
 // The bytes in lower case, or the error that there is no memory for them.
 pub fn hex_text(heap: Global, bytes: &[u8]) -> Result<String, AllocError>
     ensures answer { IfOk result (λ text. string_bytes text ≡ hex_text bytes.now) }
 {
-    if bytes.is_empty() {
-        return String::from_str(heap, "-");
+    Hex(bytes).to_string(heap)
+}
+
+// Bytes that are shown in hexadecimal, in lower case.
+#[derive(Clone, Copy)]
+pub struct Hex<'a>(pub &'a [u8]);
+
+impl fmt::Display for Hex<'_> {
+    ghost output = { λ hex. Some (hex_text hex.0.now) };
+
+    fn fmt<W: fmt::Write>(&self, f: &mut fmt::Formatter<W>) -> fmt::Result {
+        match self.0 {
+            [] => write!(f, "-"),
+            bytes => {
+                for &byte in bytes {
+                    write!(f, "{byte:02x}")?;
+                }
+                Ok(())
+            }
+        }
     }
-    let mut text = String::new(heap);
-    for byte in bytes {
-        push_byte(&mut text, *byte)?;
-    }
-    Ok(text)
 }
 
 // What is written of any bytes is read back as those bytes.
@@ -55,37 +77,10 @@ pub fn hex_law()
     ensures law { HexLaw }
 {}
 
-// The two digits of a byte, at the end of a text.
-pub(crate) fn push_byte(text: &mut String, byte: u8) -> Result<(), AllocError>
-    ensures after { OnOk result (string_bytes text.new ≡ string_bytes text.old ++ byte_hex byte) }
-{
-    text.push(digit_of(byte / 16) as char)?;
-    text.push(digit_of(byte % 16) as char)?;
-    Ok(())
-}
-
-// The digit of a number below 16.
-pub(crate) fn digit_of(number: u8) -> u8
-    requires { number < 16 }
-    ensures answer { result ≡ digit number }
-    ensures bound { result < 128 }
-{
-    if number < 10 {
-        b'0' + number
-    } else {
-        b'a' + (number - 10)
-    }
-}
-
 // The number that a digit of either case stands for.
-pub(crate) fn value_of(character: u8) -> Option<u8>
+pub(crate) fn value_of(character: u8) -> Option<u32>
     ensures answer { result ≡ digit_value character }
     ensures bound { Below16 result }
 {
-    match character {
-        b'0'..=b'9' => Some(character - b'0'),
-        b'a'..=b'f' => Some(character - b'a' + 10),
-        b'A'..=b'F' => Some(character - b'A' + 10),
-        _ => None,
-    }
+    char::from(character).to_digit(16)
 }

@@ -5,4 +5,6 @@ pub mod decimal;
 pub mod error;
 pub mod escape;
 pub mod hex;
+#[cfg(test)]
+mod tests;
 pub mod words;

@@ -7,11 +7,8 @@ ghost use Rattle.lines.specs.Words.{skip_blanks, word_in, after_word};
 fn skip_blanks(line: &[u8]) -> &[u8]
     ensures answer { result.now ≡ skip_blanks line.now }
 {
-    let mut rest = line;
-    while let [b' ', more @ ..] = rest {
-        rest = more;
-    }
-    rest
+    let blanks = line.iter().position(|byte| *byte != b' ');
+    &line[blanks.unwrap_or(line.len())..]
 }
 
 // How many bytes stand before the first blank.
@@ -20,12 +17,8 @@ fn word_length(line: &[u8]) -> usize
     ensures after { drop result line.now ≡ after_word line.now }
     ensures bound { result ≤ len line.now }
 {
-    for (index, byte) in line.iter().enumerate() {
-        if *byte == b' ' {
-            return index;
-        }
-    }
-    line.len()
+    let blank = line.iter().position(|byte| *byte == b' ');
+    blank.unwrap_or(line.len())
 }
 
 // The first word of a line, empty where there is none, and what follows it.

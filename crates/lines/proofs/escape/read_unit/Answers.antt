@@ -1,5 +1,5 @@
-use Rattle.std.proofs.Common.{◌≡◌, ℕ, true, false, get_or, sym, arith, ltb-false, ltb-true}
-use Rattle.lines.specs.Escape.{plain}
+use Rattle.std.proofs.Common.{◌≡◌, ℕ, true, false, get_or, sym, subst, arith, ltb-false, ltb-true}
+use Rattle.lines.specs.Escape.{plain, UnitIn}
 use Rattle.lines.proofs.Escapes.{plain-front, code_front, no_unit}
 use Rattle.lines.proofs.escape.read_unit.Goals as goal
 use Rattle.lines.proofs.escape.read_unit.Goals.{in_default-via-then-text-lt1, in_default-via-in-len1-up+else-is_plain+then-text-lt4, in_default-via-in-len1-up+else-is_plain+else-text-lt4+in-92+in_default-1, in_default-via-in-len1-up+else-is_plain+else-text-lt4+in_default-1}
@@ -13,16 +13,17 @@ returns-in-len1-up c = record {
   answer = (plain-front c.args.text.now (omega (arith, ltb-true, ltb-false)) (sym c.if-is_plain.ensures.answer), omega (arith, c.type_inv.text 0));
 }
 
-pub returns-in-Some : goal.returns-in-Some
-returns-in-Some c =
-    let code = c.in-Some.ensures.answer in
+pub returns-in_ok-read_code-in-92 : goal.returns-in_ok-read_code-in-92
+returns-in_ok-read_code-in-92 c =
+    let code = c.in_ok-read_code-in-92.ensures.answer in
     record {
-      answer = (code_front c.args.text.now c.in-Some.byte (omega (arith, ltb-true, ltb-false)) (omega (arith, ltb-true, ltb-false)) (omega (arith, ltb-true, ltb-false)) code.0 code.1, code.2);
+      answer = (code_front c.args.text.now c.in_ok-read_code-in-92.field-0 (omega (arith, ltb-true, ltb-false)) (omega (arith, ltb-true, ltb-false)) (omega (arith, ltb-true, ltb-false)) code.0 code.1, code.2);
     }
 
-pub returns-in-None : goal.returns-in-None
-returns-in-None c = record {
-  answer = no_unit c.args.text.now (λ _ p. both (get_or c.args.text.now 0 0) c.if-is_plain.ensures.answer p) (λ _ _ _. c.in-None.ensures.answer);
+pub returns-in_err-read_code-in-92 : goal.returns-in_err-read_code-in-92
+returns-in_err-read_code-in-92 c = record {
+  answer = subst (λ r. UnitIn c.args.text.now r) (sym c.from_residual.ensures)
+      (no_unit c.args.text.now (λ _ p. both (get_or c.args.text.now 0 0) c.if-is_plain.ensures.answer p) (λ _ _ _. c.in_err-read_code-in-92.ensures.answer));
 }
 
 pub returns-in_default : goal.returns-in_default

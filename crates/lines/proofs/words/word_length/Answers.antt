@@ -1,16 +1,19 @@
-use Rattle.std.proofs.Common.{arith}
-use Rattle.lines.proofs.Wordings.{upto_more, upto_blank, upto_all}
+use Rattle.std.proofs.Common.{rules, tests, ◌≡◌, length, take, drop, ap, ◌∙◌}
+use Rattle.std.proofs.lemmas.Iterator.{YieldsList-from_slice}
+use Rattle.std.proofs.lemmas.Iterator.Search.{position_from_yields_List}
+use Rattle.std.specs.List.{position}
+use Rattle.std.specs.Option.{unwrap_or}
+use Rattle.lines.proofs.Wordings.{blank, place, word_is, after_is}
 use Rattle.lines.proofs.words.word_length.Goals as goal
 
-pub returns-then-byte-eq32 : goal.returns-then-byte-eq32
-returns-then-byte-eq32 c =
-    let w = upto_blank c.args.line.now c.loop-index.index (omega arith) c.if-byte-eq32.true c.loop-index.invariant in
-    record { word = w.0; after = w.1; bound = omega arith }
+pub returns-clause-word : goal.returns-clause-word
+returns-clause-word c =
+    let line = c.args.line.now in
+    let found : c.position-blank.result ≡ position blank line = position_from_yields_List blank _ _ c.position-blank.result c.position-blank.ensures.ran (YieldsList-from_slice line c.iter.ensures.rest) (λ x b q k. search (rules, tests)) in
+    ap (λ k. take k line) (c.unwrap_or.ensures ∙ ap (λ r. unwrap_or r (length line)) found ∙ place blank line) ∙ word_is line
 
-pub loop-index-preserved : goal.loop-index-preserved
-loop-index-preserved c = upto_more c.args.line.now c.loop-index.index (omega arith) c.if-byte-eq32.false c.loop-index.invariant
-
-pub returns : goal.returns
-returns c =
-    let w = upto_all c.args.line.now c.loop-index.index (omega arith) c.loop-index.invariant in
-    record { word = w.0; after = w.1; bound = omega arith }
+pub returns-clause-after : goal.returns-clause-after
+returns-clause-after c =
+    let line = c.args.line.now in
+    let found : c.position-blank.result ≡ position blank line = position_from_yields_List blank _ _ c.position-blank.result c.position-blank.ensures.ran (YieldsList-from_slice line c.iter.ensures.rest) (λ x b q k. search (rules, tests)) in
+    ap (λ k. drop k line) (c.unwrap_or.ensures ∙ ap (λ r. unwrap_or r (length line)) found ∙ place blank line) ∙ after_is line
