@@ -7,13 +7,14 @@ use Rattle.store.specs.declared.kind.Refusal.{Refusal}
 use Rattle.store.specs.declared.kind.Refusal.TheVariants.{Bad}
 use Rattle.store.specs.declared.making.MakeError.{MakeError}
 use Rattle.store.specs.declared.making.MakeError.TheVariants.{Bad as TooMany, NoMemory}
-use Rattle.store.specs.Disk.{Disk, good_key, put_answer, put_after, drop_answer, drop_after, powered}
+use Rattle.store.specs.Change.{outcome, after}
+use Rattle.store.specs.Disk.{Disk, good_key, powered}
 use Rattle.store.specs.Making.{empty_disk}
 use Rattle.table.specs.Disk.{table_disk}
 use Rattle.journal.specs.Disk.{journal_disk}
 use Rattle.agreement.specs.declared.Agreement.{Agreement}
 use Rattle.agreement.specs.declared.Call.{Call}
-use Rattle.agreement.specs.declared.Call.TheVariants.{Load, Put, Remove, Power, Free, Limit}
+use Rattle.agreement.specs.declared.Call.TheVariants.{Load, Write, Power, Free, Limit}
 
 -- a number, or a refusal
 abbrev pub Answer : Type 0
@@ -31,8 +32,7 @@ done (Err e) = Err e
 -- what a call answers
 abbrev pub answer_of : Disk → Call → Answer
 answer_of d (Load k n) = load_length d k n
-answer_of d (Put k n row) = done (put_answer d k n (vec_items row))
-answer_of d (Remove k n) = done (drop_answer d k n)
+answer_of d (Write c) = done (outcome d c)
 answer_of d (Power w) = Ok 0
 answer_of d Free = Ok d.free
 answer_of d (Limit k) = Ok (d.limit k)
@@ -40,8 +40,7 @@ answer_of d (Limit k) = Ok (d.limit k)
 -- the disk after a call
 abbrev pub next : Disk → Call → Disk
 next d (Load k n) = d
-next d (Put k n row) = put_after (put_answer d k n (vec_items row)) d k n (vec_items row)
-next d (Remove k n) = drop_after (drop_answer d k n) d k n
+next d (Write c) = after (outcome d c) d c
 next d (Power w) = powered d w
 next d Free = d
 next d (Limit k) = d
@@ -60,6 +59,12 @@ final d (c ∷ cs) = final (next d c) cs
 abbrev pub ran_after : Result (Vec Answer Global) AllocError → Disk → List Call → Disk
 ran_after (Ok v) d cs = final d cs
 ran_after (Err e) d cs = d
+
+-- a store after all of them, made for a number of rows, and what each answered; more than 1,152 rows are bad, else only want of memory refuses
+abbrev pub Runs : {S : Type 0} → (S → Disk) → ℕ → List Call → Result (S × Vec Answer Global) MakeError → Type 0
+Runs disk rows cs (Ok (s, v)) = (rows ≤ 1152) × (vec_items v ≡ answers (empty_disk rows) cs) × (disk s ≡ final (empty_disk rows) cs)
+Runs disk rows cs (Err TooMany) = 1152 < rows
+Runs disk rows cs (Err NoMemory) = rows ≤ 1152
 
 -- the same answers and the same disk, both those of a disk that was empty
 pub record Agree (rows : ℕ) (cs : List Call) (a : Agreement) : Type 0 where

@@ -2,10 +2,11 @@
 #![tactic(auto)]
 
 ghost use Rattle.std.specs.Prelude.{◌≡◌, IfOk};
-ghost use Rattle.agreement.specs.Calls.{Agrees, answer_of, answers, done, load_length, next, ran_after};
+ghost use Rattle.agreement.specs.Calls.{Agrees, answer_of, answers, load_length, next, ran_after, Runs};
 
 use journal::Journal;
 use std::alloc::{AllocError, Global};
+use store::change::Change;
 use store::kind::{Kind, Refusal};
 use store::making::{Made, MakeError};
 use store::{ROW_BYTES, Store};
@@ -14,26 +15,11 @@ use table::Table;
 /// A call on a store.
 #[derive(Drop)]
 pub enum Call {
-    Load {
-        kind: Kind,
-        number: u32,
-    },
-    Put {
-        kind: Kind,
-        number: u32,
-        row: Vec<u8>,
-    },
-    Remove {
-        kind: Kind,
-        number: u32,
-    },
-    Power {
-        writes: u32,
-    },
+    Load { kind: Kind, number: u32 },
+    Write(Change),
+    Power { writes: u32 },
     Free,
-    Limit {
-        kind: Kind,
-    },
+    Limit { kind: Kind },
 }
 
 /// The number that a call answers, 0 where it answers none, or its refusal.
@@ -47,16 +33,6 @@ fn load_length<S: Store>(store: &S, kind: Kind, number: u32) -> Answer
     store.load(kind, number, &mut buffer)
 }
 
-// A write's answer as that of any call.
-fn told(outcome: Result<(), Refusal>) -> Answer
-    ensures answer { result ≡ done outcome }
-{
-    match outcome {
-        Ok(_) => Ok(0),
-        Err(refusal) => Err(refusal),
-    }
-}
-
 impl Call {
     /// Makes this one call.
     pub fn make<S: Store>(&self, store: &mut S) -> Answer
@@ -66,14 +42,13 @@ impl Call {
     {
         match self {
             Call::Load { kind, number } => load_length(&*store, *kind, *number),
-            Call::Put { kind, number, row } => told(store.put(*kind, *number, row.as_slice())),
-            Call::Remove { kind, number } => told(store.drop_row(*kind, *number)),
+            Call::Write(change) => change.make(store).map(|()| 0),
             Call::Power { writes } => {
                 store.power(*writes);
                 Ok(0)
             }
-            Call::Free => Ok((*store).free() as usize),
-            Call::Limit { kind } => Ok((*store).limit(*kind) as usize),
+            Call::Free => Ok(store.free() as usize),
+            Call::Limit { kind } => Ok(store.limit(*kind) as usize),
         }
     }
 }
@@ -101,15 +76,26 @@ pub struct Agreement {
     pub of_journal: Vec<Answer>,
 }
 
+// Makes a store for so many rows and the calls on it.
+fn make_and_run<S: Made + Drop>(
+    heap: Global,
+    rows: u32,
+    calls: &[Call],
+) -> Result<(S, Vec<Answer>), MakeError>
+    ensures answer { Runs S.Store.disk rows calls.now result }
+{
+    let mut store = S::new(heap, rows)?;
+    let answers = run(heap, &mut store, calls)?;
+    Ok((store, answers))
+}
+
 /// Makes a table and a journal for so many rows and the same calls on each: the answers are the same, and so is all that
 /// the two show then.
 pub fn agree(heap: Global, rows: u32, calls: &[Call]) -> Result<Agreement, MakeError>
     ensures answer { Agrees rows calls.now result }
 {
-    let mut table = Table::new(heap, rows)?;
-    let mut journal = Journal::new(heap, rows)?;
-    let of_table = run(heap, &mut table, calls)?;
-    let of_journal = run(heap, &mut journal, calls)?;
+    let (table, of_table) = make_and_run::<Table>(heap, rows, calls)?;
+    let (journal, of_journal) = make_and_run::<Journal>(heap, rows, calls)?;
     Ok(Agreement {
         table,
         journal,

@@ -1,6 +1,6 @@
 // One operation on a store, written as a number.
 ghost use Rattle.std.specs.Prelude.{◌≡◌};
-ghost use Rattle.exports.specs.Operation.{kind_in, operation_in, refusal_number, done_number, length_number, row_in, reply, disk_after, buffer_after};
+ghost use Rattle.exports.specs.Operation.{kind_in, operation_in, refusal_number, length_number, row_in, reply, disk_after, buffer_after};
 
 use store::Store;
 use store::kind::{Kind, Refusal};
@@ -39,12 +39,12 @@ fn kind_in(word: u64) -> Kind
     }
 }
 
-impl Operation {
-    // Bits 0 to 7 are 0 for put, 1 for drop, 2 for load, 3 for power, any other for free; then the kind;
-    // then the row's number or the writes left, the start and the length of the row in 16 bits each.
-    pub fn from_word(word: u64) -> Operation
-        ensures answer { result ≡ operation_in word }
-    {
+// Bits 0 to 7 are 0 for put, 1 for drop, 2 for load, 3 for power, any other for free; then the kind;
+// then the row's number or the writes left, the start and the length of the row in 16 bits each.
+impl From<u64> for Operation {
+    ghost from_gives = { λ word operation. operation ≡ operation_in word };
+
+    fn from(word: u64) -> Operation {
         let kind = kind_in(word);
         let number = (word / 65536 % 65536) as u32;
         match word % 256 {
@@ -60,10 +60,22 @@ impl Operation {
             _ => Operation::Free,
         }
     }
+}
 
+impl Operation {
     // Does it and answers a number: the row's length or the free rows, 0 for done, or 2^32 and the refusal's number.
     pub fn perform<S: Store>(self, store: &mut S, pool: &[u8], buffer: &mut [u8]) -> u64
         ensures answer { result ≡ reply (S.Store.disk store.old) pool.now buffer.old self }
+        ensures after { S.Store.disk store.new ≡ disk_after (S.Store.disk store.old) pool.now self }
+        ensures buffer { buffer.new ≡ buffer_after (S.Store.disk store.old) buffer.old self }
+    {
+        self.call(store, pool, buffer)
+            .unwrap_or_else(refusal_number)
+    }
+
+    // Does it and answers the row's length or the free rows, 0 for done, or the refusal.
+    fn call<S: Store>(self, store: &mut S, pool: &[u8], buffer: &mut [u8]) -> Result<u64, Refusal>
+        ensures answer { length_number result ≡ reply (S.Store.disk store.old) pool.now buffer.old self }
         ensures after { S.Store.disk store.new ≡ disk_after (S.Store.disk store.old) pool.now self }
         ensures buffer { buffer.new ≡ buffer_after (S.Store.disk store.old) buffer.old self }
     {
@@ -73,14 +85,18 @@ impl Operation {
                 number,
                 start,
                 length,
-            } => done_number(store.put(kind, number, row_in(pool, start, length))),
-            Operation::Remove { kind, number } => done_number(store.drop_row(kind, number)),
-            Operation::Load { kind, number } => length_number((*store).load(kind, number, buffer)),
+            } => store
+                .put(kind, number, row_in(pool, start, length))
+                .map(|()| 0),
+            Operation::Remove { kind, number } => store.drop_row(kind, number).map(|()| 0),
+            Operation::Load { kind, number } => {
+                store.load(kind, number, buffer).map(|length| length as u64)
+            }
             Operation::Power { writes } => {
                 store.power(writes);
-                0
+                Ok(0)
             }
-            Operation::Free => (*store).free() as u64,
+            Operation::Free => Ok(store.free() as u64),
         }
     }
 }
@@ -89,12 +105,12 @@ impl Operation {
 fn row_in(pool: &[u8], start: usize, length: usize) -> &[u8]
     ensures answer { result.now ≡ row_in pool.now start length }
 {
-    if start > pool.len() || length > pool.len() - start {
-        return &pool[0..0];
-    }
-    &pool[start..start + length]
+    pool.get(start..)
+        .and_then(|rest| rest.get(..length))
+        .unwrap_or(&[])
 }
 
+// 2^32 and the refusal's number.
 fn refusal_number(refusal: Refusal) -> u64
     ensures answer { result ≡ refusal_number refusal }
 {
@@ -102,23 +118,5 @@ fn refusal_number(refusal: Refusal) -> u64
         Refusal::Bad => 4294967297,
         Refusal::Gone => 4294967298,
         Refusal::NoRoom => 4294967299,
-    }
-}
-
-fn done_number(res: Result<(), Refusal>) -> u64
-    ensures answer { result ≡ done_number res }
-{
-    match res {
-        Ok(_) => 0,
-        Err(refusal) => refusal_number(refusal),
-    }
-}
-
-fn length_number(res: Result<usize, Refusal>) -> u64
-    ensures answer { result ≡ length_number res }
-{
-    match res {
-        Ok(length) => length as u64,
-        Err(refusal) => refusal_number(refusal),
     }
 }

@@ -1,17 +1,24 @@
 // Reading a whole packet, for a caller in another language.
 ghost use Rattle.std.specs.Prelude.{◌≡◌};
+ghost use Rattle.frame.specs.FirstByte.{number_of};
 ghost use Rattle.packets.specs.Filters.{entries_of, nth};
 ghost use Rattle.packets.specs.Packet.{content};
 ghost use Rattle.packets.specs.Reads.{reads};
-ghost use Rattle.exports.specs.Read.{asks, bit, content_filter, entry_numbers, filter_numbers, numbers, read_numbers, told};
+ghost use Rattle.exports.specs.Read.{content_filter, entry_numbers, filter_numbers, named, numbers, read_numbers};
 
+use frame::first_byte::PacketType;
 use packets::packet::{Filters, Packet, ReadError};
 use packets::reader::read;
-use topics::qos::Qos;
+
+// In place of the type's number, for a CONNECT of another level.
+const OTHER_LEVEL: u8 = 15;
+
+// In place of the QoS, for a filter that asks for none.
+const NO_QOS: u8 = 3;
 
 // What a packet says but for its filters, as numbers; those that a type does not have are 0.
 #[repr(C)]
-#[derive(Clone, Copy)]
+#[derive(Clone, Copy, Default)]
 pub struct ReadOutcome {
     // The type's number; 15 for a CONNECT of another level, 0 for a bad field.
     pub packet_type: u8,
@@ -32,7 +39,7 @@ pub struct ReadOutcome {
 
 // A filter of a packet: 1 and its place, length and QoS, 3 where it asks for none; or all 0 where there is none.
 #[repr(C)]
-#[derive(Clone, Copy)]
+#[derive(Clone, Copy, Default)]
 pub struct FilterOutcome {
     pub present: u8,
     pub qos: u8,
@@ -40,28 +47,26 @@ pub struct FilterOutcome {
     pub length: usize,
 }
 
-// A type, a flag and a grade, an identifier, and the place and length of a text.
-fn told(packet_type: u8, flag: u8, grade: u8, id: u16, place: usize, length: usize) -> ReadOutcome
-    ensures answer { result ≡ told packet_type flag grade id place length }
-{
-    ReadOutcome {
-        packet_type,
-        field: 0,
-        flag,
-        grade,
-        id,
-        place,
-        length,
-        payload_place: 0,
-        payload_length: 0,
+impl ReadOutcome {
+    // A packet of a type, and nothing more.
+    fn of(packet_type: PacketType) -> ReadOutcome
+        ensures answer { result ≡ named (number_of packet_type) 0 }
+    {
+        ReadOutcome {
+            packet_type: packet_type.number(),
+            ..ReadOutcome::default()
+        }
     }
-}
 
-// A flag as a number.
-fn bit_of(flag: bool) -> u8
-    ensures answer { result ≡ bit flag }
-{
-    if flag { 1 } else { 0 }
+    // A packet of a type with an identifier.
+    fn with_id(packet_type: PacketType, id: u16) -> ReadOutcome
+        ensures answer { result ≡ named (number_of packet_type) id }
+    {
+        ReadOutcome {
+            id,
+            ..ReadOutcome::of(packet_type)
+        }
+    }
 }
 
 // What a packet says but for its filters.
@@ -69,11 +74,19 @@ fn numbers_of(packet: &Packet<'_>) -> ReadOutcome
     ensures answer { result ≡ numbers (content packet.now) }
 {
     match *packet {
-        Packet::Connect { client, client_at } => told(1, 0, 0, 0, client_at, client.len()),
+        Packet::Connect { client, client_at } => ReadOutcome {
+            place: client_at,
+            length: client.len(),
+            ..ReadOutcome::of(PacketType::Connect)
+        },
         Packet::ConnAck {
             session_present,
             code,
-        } => told(2, bit_of(session_present), code, 0, 0, 0),
+        } => ReadOutcome {
+            flag: u8::from(session_present),
+            grade: code,
+            ..ReadOutcome::of(PacketType::ConnAck)
+        },
         Packet::Publish {
             dup,
             qos,
@@ -83,37 +96,29 @@ fn numbers_of(packet: &Packet<'_>) -> ReadOutcome
             payload,
             payload_at,
         } => ReadOutcome {
-            packet_type: 3,
-            field: 0,
-            flag: bit_of(dup),
+            flag: u8::from(dup),
             grade: qos.number(),
             id: id.unwrap_or(0),
             place: topic_at,
             length: topic.len(),
             payload_place: payload_at,
             payload_length: payload.len(),
+            ..ReadOutcome::of(PacketType::Publish)
         },
-        Packet::PubAck { id } => told(4, 0, 0, id, 0, 0),
-        Packet::PubRec { id } => told(5, 0, 0, id, 0, 0),
-        Packet::PubRel { id } => told(6, 0, 0, id, 0, 0),
-        Packet::PubComp { id } => told(7, 0, 0, id, 0, 0),
-        Packet::Subscribe { id, filters: _ } => told(8, 0, 0, id, 0, 0),
-        Packet::SubAck { id, codes } => told(9, 0, 0, id, 0, codes.len()),
-        Packet::Unsubscribe { id, filters: _ } => told(10, 0, 0, id, 0, 0),
-        Packet::UnsubAck { id } => told(11, 0, 0, id, 0, 0),
-        Packet::PingReq => told(12, 0, 0, 0, 0, 0),
-        Packet::PingResp => told(13, 0, 0, 0, 0, 0),
-        Packet::Disconnect => told(14, 0, 0, 0, 0, 0),
-    }
-}
-
-// The quality of service that a filter asks for, 3 for none.
-fn asked(qos: Option<Qos>) -> u8
-    ensures answer { result ≡ asks qos }
-{
-    match qos {
-        Some(qos) => qos.number(),
-        None => 3,
+        Packet::PubAck { id } => ReadOutcome::with_id(PacketType::PubAck, id),
+        Packet::PubRec { id } => ReadOutcome::with_id(PacketType::PubRec, id),
+        Packet::PubRel { id } => ReadOutcome::with_id(PacketType::PubRel, id),
+        Packet::PubComp { id } => ReadOutcome::with_id(PacketType::PubComp, id),
+        Packet::Subscribe { id, filters: _ } => ReadOutcome::with_id(PacketType::Subscribe, id),
+        Packet::SubAck { id, codes } => ReadOutcome {
+            length: codes.len(),
+            ..ReadOutcome::with_id(PacketType::SubAck, id)
+        },
+        Packet::Unsubscribe { id, filters: _ } => ReadOutcome::with_id(PacketType::Unsubscribe, id),
+        Packet::UnsubAck { id } => ReadOutcome::with_id(PacketType::UnsubAck, id),
+        Packet::PingReq => ReadOutcome::of(PacketType::PingReq),
+        Packet::PingResp => ReadOutcome::of(PacketType::PingResp),
+        Packet::Disconnect => ReadOutcome::of(PacketType::Disconnect),
     }
 }
 
@@ -124,16 +129,11 @@ fn filter_of(filters: Filters<'_>, index: usize) -> FilterOutcome
     match filters.get(index) {
         Some(filter) => FilterOutcome {
             present: 1,
-            qos: asked(filter.qos),
+            qos: filter.qos.map_or(NO_QOS, |qos| qos.number()),
             place: filter.place,
             length: filter.bytes.len(),
         },
-        None => FilterOutcome {
-            present: 0,
-            qos: 0,
-            place: 0,
-            length: 0,
-        },
+        None => FilterOutcome::default(),
     }
 }
 
@@ -142,14 +142,10 @@ fn packet_filter(packet: &Packet<'_>, index: usize) -> FilterOutcome
     ensures answer { result ≡ content_filter (content packet.now) index }
 {
     match *packet {
-        Packet::Subscribe { id: _, filters } => filter_of(filters, index),
-        Packet::Unsubscribe { id: _, filters } => filter_of(filters, index),
-        _ => FilterOutcome {
-            present: 0,
-            qos: 0,
-            place: 0,
-            length: 0,
-        },
+        Packet::Subscribe { id: _, filters } | Packet::Unsubscribe { id: _, filters } => {
+            filter_of(filters, index)
+        }
+        _ => FilterOutcome::default(),
     }
 }
 
@@ -160,17 +156,14 @@ pub extern "C" fn merukpa_read(bytes: &[u8]) -> ReadOutcome
 {
     match read(bytes) {
         Ok(packet) => numbers_of(&packet),
-        Err(ReadError::Level) => told(15, 0, 0, 0, 0, 0),
+        Err(ReadError::Level) => ReadOutcome {
+            packet_type: OTHER_LEVEL,
+            ..ReadOutcome::default()
+        },
         Err(ReadError::Bad(bad)) => ReadOutcome {
-            packet_type: 0,
             field: bad.field.number(),
-            flag: 0,
-            grade: 0,
-            id: 0,
             place: bad.place,
-            length: 0,
-            payload_place: 0,
-            payload_length: 0,
+            ..ReadOutcome::default()
         },
     }
 }
@@ -182,11 +175,6 @@ pub extern "C" fn merukpa_filter(bytes: &[u8], index: usize) -> FilterOutcome
 {
     match read(bytes) {
         Ok(packet) => packet_filter(&packet, index),
-        Err(_) => FilterOutcome {
-            present: 0,
-            qos: 0,
-            place: 0,
-            length: 0,
-        },
+        Err(_) => FilterOutcome::default(),
     }
 }

@@ -1,6 +1,7 @@
 // Operations on a store one after another, for a caller in another language.
 ghost use Rattle.std.specs.Prelude.{◌≡◌, length, IfOk, vec_len};
-ghost use Rattle.exports.specs.Script.{replies, buffer_once_run, Ran, RanOn};
+ghost use Rattle.exports.specs.declared.script.RunError.TheVariants.{NoMemory};
+ghost use Rattle.exports.specs.Script.{replies, buffer_once_run, code_of, not_made, Ran, RanOn};
 
 use crate::operation::Operation;
 use journal::Journal;
@@ -23,9 +24,36 @@ fn run<S: Store>(
 {
     let mut answers = Vec::with_capacity(heap, script.len())?;
     for word in script {
-        answers.push_reserved(Operation::from_word(*word).perform(store, pool, buffer));
+        answers.push_reserved(Operation::from(*word).perform(store, pool, buffer));
     }
     Ok(answers)
+}
+
+// Why nothing was performed.
+#[derive(Clone, Copy, PartialEq, Eq, Debug)]
+pub enum RunError {
+    // More than 1,152 rows, or fewer answers than operations.
+    Bad = 1,
+    NoMemory = 2,
+}
+
+impl From<AllocError> for RunError {
+    ghost from_gives = { λ _ e. e ≡ NoMemory };
+
+    fn from(_none: AllocError) -> RunError {
+        RunError::NoMemory
+    }
+}
+
+impl From<MakeError> for RunError {
+    ghost from_gives = { λ made e. e ≡ not_made made };
+
+    fn from(error: MakeError) -> RunError {
+        match error {
+            MakeError::Bad => RunError::Bad,
+            MakeError::NoMemory => RunError::NoMemory,
+        }
+    }
 }
 
 // Puts the answers at the start of the caller's; fewer places than operations are bad.
@@ -36,18 +64,39 @@ fn run_into<S: Store>(
     pool: &[u8],
     buffer: &mut [u8],
     answers: &mut [u64],
-) -> u32
-    ensures answer { RanOn (S.Store.disk store.old) script.now pool.now buffer.old answers.old result buffer.new answers.new }
+) -> Result<(), RunError>
+    ensures answer { RanOn (S.Store.disk store.old) script.now pool.now buffer.old answers.old (code_of result) buffer.new answers.new }
 {
     if answers.len() < script.len() {
-        return 1;
+        return Err(RunError::Bad);
     }
-    match run(heap, store, script, pool, buffer) {
-        Ok(replies) => {
-            answers[0..replies.len()].copy_from_slice(replies.as_slice());
-            0
-        }
-        Err(_) => 2,
+    let replies = run(heap, store, script, pool, buffer)?;
+    answers[0..replies.len()].copy_from_slice(replies.as_slice());
+    Ok(())
+}
+
+// The same on a new store for so many rows.
+fn run_on_new<S: Made + Drop>(
+    heap: Global,
+    rows: u32,
+    script: &[u64],
+    pool: &[u8],
+    buffer: &mut [u8],
+    answers: &mut [u64],
+) -> Result<(), RunError>
+    ensures answer { Ran rows script.now pool.now buffer.old answers.old (code_of result) buffer.new answers.new }
+{
+    let mut store = S::new(heap, rows)?;
+    run_into(heap, &mut store, script, pool, buffer, answers)
+}
+
+// 0 where all was performed, else the error's number.
+fn code_of(run: Result<(), RunError>) -> u32
+    ensures answer { result ≡ code_of run }
+{
+    match run {
+        Ok(()) => 0,
+        Err(error) => error as u32,
     }
 }
 
@@ -64,11 +113,7 @@ pub extern "C" fn merukpa_table(
 ) -> u32
     ensures answer { Ran rows script.now pool.now buffer.old answers.old result buffer.new answers.new }
 {
-    match Table::new(heap, rows) {
-        Ok(mut table) => run_into(heap, &mut table, script, pool, buffer, answers),
-        Err(MakeError::Bad) => 1,
-        Err(MakeError::NoMemory) => 2,
-    }
+    code_of(run_on_new::<Table>(heap, rows, script, pool, buffer, answers))
 }
 
 // The same on a new journal.
@@ -83,9 +128,5 @@ pub extern "C" fn merukpa_journal(
 ) -> u32
     ensures answer { Ran rows script.now pool.now buffer.old answers.old result buffer.new answers.new }
 {
-    match Journal::new(heap, rows) {
-        Ok(mut journal) => run_into(heap, &mut journal, script, pool, buffer, answers),
-        Err(MakeError::Bad) => 1,
-        Err(MakeError::NoMemory) => 2,
-    }
+    code_of(run_on_new::<Journal>(heap, rows, script, pool, buffer, answers))
 }

@@ -7,7 +7,7 @@ use frame::parts::split_packet;
 
 // The type's number, the flags, and the body's place and length; or type 0, and the bad field's number and place.
 #[repr(C)]
-#[derive(Clone, Copy)]
+#[derive(Clone, Copy, Default)]
 pub struct SplitOutcome {
     pub packet_type: u8,
     pub flags: u8,
@@ -25,16 +25,14 @@ pub extern "C" fn merukpa_split(bytes: &[u8]) -> SplitOutcome
         Ok(parts) => SplitOutcome {
             packet_type: parts.packet_type.number(),
             flags: parts.flags,
-            field: 0,
             place: parts.place,
             length: parts.body.len(),
+            ..SplitOutcome::default()
         },
         Err(bad) => SplitOutcome {
-            packet_type: 0,
-            flags: 0,
             field: bad.field.number(),
             place: bad.place,
-            length: 0,
+            ..SplitOutcome::default()
         },
     }
 }

@@ -8,6 +8,7 @@ use base::Base;
 use window::Window;
 
 // A store under as many windows as the name says, each on the one before it.
+// A variant for each height: a Box of the pile below would need memory, and `window` fails for none.
 #[derive(Drop)]
 pub enum Pile {
     Bare(Base),

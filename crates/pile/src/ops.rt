@@ -1,17 +1,18 @@
 // A pile as a store, and windows stacked on it.
 ghost use Rattle.std.specs.Prelude.{◌≡◌, IfOk};
 ghost use Rattle.store.specs.Making.{Makes};
-ghost use Rattle.pile.specs.Pile.{Frames, pile_disk, pile_rest, pile_sound, OnTable, OnJournal, Stacks};
-ghost use Rattle.pile.specs.declared.ops.StackRefusal.TheVariants.{Beyond};
+ghost use Rattle.pile.specs.Pile.{Frames, pile_disk, pile_rest, pile_sound, BareWith, Stacks};
+ghost use Rattle.pile.specs.declared.Pile.TheVariants.{Bare, One, Two};
+ghost use Rattle.pile.specs.declared.ops.StackRefusal.TheVariants.{Beyond as OutOfReach};
 
 use crate::Pile;
-use crate::base::Base;
+use crate::base::{Base, Basis};
 use std::alloc::Global;
 use store::Store;
 use store::kind::{Kind, Refusal};
 use store::making::MakeError;
-use window::Window;
 use window::span::Spans;
+use window::{Beyond, Window};
 
 #[derive(Clone, Copy, PartialEq, Eq, Debug)]
 pub enum StackRefusal {
@@ -29,26 +30,12 @@ pub struct Unstacked {
 }
 
 impl Pile {
-    // An empty table for so many rows, with no write left; more than 1,152 are bad.
-    pub fn new_table(heap: Global, rows: u32) -> Result<Pile, MakeError>
+    // An empty store of this type for so many rows, with no write left; more than 1,152 are bad.
+    pub fn new<S: Basis>(heap: Global, rows: u32) -> Result<Pile, MakeError>
         ensures answer { Makes pile_disk rows result }
-        ensures base { IfOk result OnTable }
+        ensures base { IfOk result (BareWith S.Is) }
     {
-        match Base::new_table(heap, rows) {
-            Ok(base) => Ok(Pile::Bare(base)),
-            Err(error) => Err(error),
-        }
-    }
-
-    // An empty journal for so many rows, with no write left; more than 1,152 are bad.
-    pub fn new_journal(heap: Global, rows: u32) -> Result<Pile, MakeError>
-        ensures answer { Makes pile_disk rows result }
-        ensures base { IfOk result OnJournal }
-    {
-        match Base::new_journal(heap, rows) {
-            Ok(base) => Ok(Pile::Bare(base)),
-            Err(error) => Err(error),
-        }
+        Ok(Pile::Bare(Base::new::<S>(heap, rows)?))
     }
 
     // The pile with one window more; a fourth is refused, and so is one that does not lie within the limits.
@@ -56,18 +43,9 @@ impl Pile {
         ensures answer { Stacks self spans result }
     {
         match self {
-            Pile::Bare(base) => match Window::new(base, spans) {
-                Ok(window) => Ok(Pile::One(window)),
-                Err(beyond) => Err(beyond_limits(Pile::Bare(beyond.store))),
-            },
-            Pile::One(below) => match Window::new(below, spans) {
-                Ok(window) => Ok(Pile::Two(window)),
-                Err(beyond) => Err(beyond_limits(Pile::One(beyond.store))),
-            },
-            Pile::Two(below) => match Window::new(below, spans) {
-                Ok(window) => Ok(Pile::Three(window)),
-                Err(beyond) => Err(beyond_limits(Pile::Two(beyond.store))),
-            },
+            Pile::Bare(base) => Ok(Pile::One(Window::new(base, spans)?)),
+            Pile::One(below) => Ok(Pile::Two(Window::new(below, spans)?)),
+            Pile::Two(below) => Ok(Pile::Three(Window::new(below, spans)?)),
             Pile::Three(below) => Err(Unstacked {
                 pile: Pile::Three(below),
                 why: StackRefusal::Full,
@@ -76,14 +54,52 @@ impl Pile {
     }
 }
 
-fn beyond_limits(pile: Pile) -> Unstacked
-    ensures pile { result.pile ≡ pile }
-    ensures why { result.why ≡ Beyond }
-{
-    Unstacked {
-        pile,
-        why: StackRefusal::Beyond,
+impl From<Base> for Pile {
+    ghost from_gives = { λ base pile. pile ≡ Bare base };
+
+    fn from(base: Base) -> Pile {
+        Pile::Bare(base)
     }
+}
+
+impl From<Window<Base>> for Pile {
+    ghost from_gives = { λ window pile. pile ≡ One window };
+
+    fn from(window: Window<Base>) -> Pile {
+        Pile::One(window)
+    }
+}
+
+impl From<Window<Window<Base>>> for Pile {
+    ghost from_gives = { λ window pile. pile ≡ Two window };
+
+    fn from(window: Window<Window<Base>>) -> Pile {
+        Pile::Two(window)
+    }
+}
+
+// A window beyond the limits is not stacked on the store, which is the pile again.
+impl<S: Into<Pile>> From<Beyond<S>> for Unstacked {
+    ghost from_gives = { λ beyond e. S.converts beyond.store e.pile × (e.why ≡ OutOfReach) };
+
+    fn from(beyond: Beyond<S>) -> Unstacked {
+        Unstacked {
+            pile: beyond.store.into(),
+            why: StackRefusal::Beyond,
+        }
+    }
+}
+
+// A call on the top of a pile, arm by arm: a function may not make a `&dyn Store` and hand it out.
+macro_rules! on_top {
+    ($pile:expr, $store:ident => $call:expr) => {
+        match $pile {
+            Pile::Bare($store) => $call,
+            Pile::One($store) => $call,
+            Pile::Two($store) => $call,
+            Pile::Three($store) => $call,
+        }
+    };
 }
 
 impl Store for Pile {
@@ -96,56 +112,26 @@ impl Store for Pile {
     ghost sound = { pile_sound };
 
     fn load(&self, kind: Kind, number: u32, buffer: &mut [u8]) -> Result<usize, Refusal> {
-        match self {
-            Pile::Bare(base) => base.load(kind, number, buffer),
-            Pile::One(window) => window.load(kind, number, buffer),
-            Pile::Two(window) => window.load(kind, number, buffer),
-            Pile::Three(window) => window.load(kind, number, buffer),
-        }
+        on_top!(self, store => store.load(kind, number, buffer))
     }
 
     fn put(&mut self, kind: Kind, number: u32, row: &[u8]) -> Result<(), Refusal> {
-        match self {
-            Pile::Bare(base) => base.put(kind, number, row),
-            Pile::One(window) => window.put(kind, number, row),
-            Pile::Two(window) => window.put(kind, number, row),
-            Pile::Three(window) => window.put(kind, number, row),
-        }
+        on_top!(self, store => store.put(kind, number, row))
     }
 
     fn drop_row(&mut self, kind: Kind, number: u32) -> Result<(), Refusal> {
-        match self {
-            Pile::Bare(base) => base.drop_row(kind, number),
-            Pile::One(window) => window.drop_row(kind, number),
-            Pile::Two(window) => window.drop_row(kind, number),
-            Pile::Three(window) => window.drop_row(kind, number),
-        }
+        on_top!(self, store => store.drop_row(kind, number))
     }
 
     fn limit(&self, kind: Kind) -> u32 {
-        match self {
-            Pile::Bare(base) => base.limit(kind),
-            Pile::One(window) => window.limit(kind),
-            Pile::Two(window) => window.limit(kind),
-            Pile::Three(window) => window.limit(kind),
-        }
+        on_top!(self, store => store.limit(kind))
     }
 
     fn free(&self) -> u32 {
-        match self {
-            Pile::Bare(base) => base.free(),
-            Pile::One(window) => window.free(),
-            Pile::Two(window) => window.free(),
-            Pile::Three(window) => window.free(),
-        }
+        on_top!(self, store => store.free())
     }
 
     fn power(&mut self, writes: u32) {
-        match self {
-            Pile::Bare(base) => base.power(writes),
-            Pile::One(window) => window.power(writes),
-            Pile::Two(window) => window.power(writes),
-            Pile::Three(window) => window.power(writes),
-        }
+        on_top!(self, store => store.power(writes))
     }
 }

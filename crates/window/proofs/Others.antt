@@ -1,12 +1,11 @@
 -- What calls through one window leave of another, and of a store that was lent.
 use Rattle.std.proofs.Common.{◌≡◌, ℕ, ◌+◌, ◌-◌, ◌<◌, min, Bool, true, false, cond, ltb, leb, List, [], sym, refl, ap, ◌∙◌, inl, inr, arith}
-use base.Fml.{GName}
 use Rattle.std.proofs.lemmas.Bool.{cases_Bool, ltb-true, leb-true, and_parts, cond-false}
 use Rattle.store.specs.declared.kind.Kind.{Kind}
 use Rattle.store.specs.Disk.{Disk}
 use Rattle.window.specs.declared.span.Spans.{Spans}
 use Rattle.window.specs.Span.{base_of, width_of, Apart}
-use Rattle.window.specs.View.{view, view_limit, covers, Around, around, Beside}
+use Rattle.window.specs.View.{view_limit, covers, around, Beside}
 
 -- a number of one window is covered by no window apart from it
 uncovered : (d : Disk) (s o : Spans) → Apart s o → (k : Kind) (n : ℕ) → n < width_of o k → covers d s k (base_of o k + n) ≡ false
@@ -28,41 +27,20 @@ either_row false false x y e f = refl
 outside_row : (t u : Bool) (x y : List ℕ) → t ≡ false → u ≡ false → cond t [] x ≡ cond u [] y → x ≡ y
 outside_row t u x y p q e = sym (cond-false t [] x p) ∙ e ∙ cond-false u [] y q
 
--- whatever leaves what lies around a window leaves every window apart from it
-module _ {F : Type 0} (d e : Disk) (f g : F) (s o : Spans) (r : around e g s ≡ around d f s) (apart : Apart s o) where
-  same_limits : (k : Kind) → view_limit e o k ≡ view_limit d o k
+-- a store that shows the same around a window shows the same in every window apart from it
+module _ {X F : Type 0} (disk : X → Disk) (rest : X → F) (x first : X) (s o : Spans) (r : around (disk x) (rest x) s ≡ around (disk first) (rest first) s) (apart : Apart s o) where
+  same_limits : (k : Kind) → view_limit (disk x) o k ≡ view_limit (disk first) o k
   same_limits k = ap (λ a. min (width_of o k) (a.limit k - base_of o k)) r
 
-  same_row : (k : Kind) (n : ℕ) → ltb n (view_limit d o k) ≡ true → e.rows k (base_of o k + n) ≡ d.rows k (base_of o k + n)
+  same_row : (k : Kind) (n : ℕ) → ltb n (view_limit (disk first) o k) ≡ true → (disk x).rows k (base_of o k + n) ≡ (disk first).rows k (base_of o k + n)
   same_row k n t =
-      let h : n < width_of o k = omega (arith, ltb-true n (view_limit d o k) t) in
-      outside_row (covers e s k (base_of o k + n)) (covers d s k (base_of o k + n)) (e.rows k (base_of o k + n)) (d.rows k (base_of o k + n)) (uncovered e s o apart k n h) (uncovered d s o apart k n h) (ap (λ a. a.outside k (base_of o k + n)) r)
+      let h : n < width_of o k = omega (arith, ltb-true n (view_limit (disk first) o k) t) in
+      outside_row (covers (disk x) s k (base_of o k + n)) (covers (disk first) s k (base_of o k + n)) ((disk x).rows k (base_of o k + n)) ((disk first).rows k (base_of o k + n)) (uncovered (disk x) s o apart k n h) (uncovered (disk first) s o apart k n h) (ap (λ a. a.outside k (base_of o k + n)) r)
 
-  pub others : Beside d e o
+  pub others : Beside (disk first) (disk x) o
   others = record {
-    rows = λ k n. either_row (ltb n (view_limit e o k)) (ltb n (view_limit d o k)) (e.rows k (base_of o k + n)) (d.rows k (base_of o k + n)) (ap (ltb n) (same_limits k)) (same_row k n);
+    rows = λ k n. either_row (ltb n (view_limit (disk x) o k)) (ltb n (view_limit (disk first) o k)) ((disk x).rows k (base_of o k + n)) ((disk first).rows k (base_of o k + n)) (ap (ltb n) (same_limits k)) (same_row k n);
     limit = same_limits;
     free = refl;
     writes = refl;
   }
-
--- a store x that was lent to a window, which had it as `first` and left it as `last`
-module _ {X F : Type 0} (disk : X → Disk) (rest : X → F) (x last first : X) (s t : Spans) {mine its : GName} (r : around {F = GName × F} (disk last) (its, rest last) t ≡ around {F = GName × F} (disk first) (mine, rest first) s) (back : mine ≡ its → x ≡ last) where
-  came : x ≡ last
-  came = back (sym (ap (λ a. a.below.0) r))
-
-  lay : t ≡ s
-  lay = ap (λ a. a.spans) r
-
-  abbrev below_only : Around (GName × F) → Around F
-  below_only a = record { spans = a.spans; outside = a.outside; limit = a.limit; below = a.below.1 }
-
-  pub lent_rest : around (disk x) (rest x) s ≡ around (disk first) (rest first) s
-  lent_rest =
-      ap (λ y. around (disk y) (rest y) s) came ∙ ap (λ z. around (disk last) (rest last) z) (sym lay) ∙ ap {B = Around F} below_only r
-
-  pub lent_after : {d : Disk} → view (disk last) t ≡ d → view (disk x) s ≡ d
-  lent_after e = ap (λ y. view (disk y) s) came ∙ ap (view (disk last)) (sym lay) ∙ e
-
-  pub lent_others : (o : Spans) → Apart s o → Beside (disk first) (disk x) o
-  lent_others o apart = others (disk first) (disk x) (rest first) (rest x) s o lent_rest apart

@@ -1,8 +1,9 @@
 // A window on a store: a run of the numbers of each kind, as a store of its own. Windows stand on windows.
 #![tactic(auto)]
 
-ghost use Rattle.std.specs.Prelude.{◌≡◌, ◌+◌, ◌<◌, ◌≤◌, true, IfOk, Decides, MatchOption, MatchResult};
+ghost use Rattle.std.specs.Prelude.{◌≡◌, ◌+◌, ◌<◌, ◌≤◌, IfOk, MatchResult};
 ghost use Rattle.store.specs.declared.kind.Kind.{Kind as AnyKind};
+ghost use Rattle.store.specs.declared.kind.Refusal.TheVariants.{Bad};
 ghost use Rattle.window.specs.Span.{base_of, width_of, Within};
 ghost use Rattle.window.specs.Sound.{view_sound};
 ghost use Rattle.window.specs.View.{view, Around, around};
@@ -29,28 +30,12 @@ pub struct Beyond<S> {
 }
 
 impl<S> Beyond<S> {
-    // The refusal's number, 13.
+    // The refusal's number, 13. A number: docs/store.md numbers this refusal, and callers print it.
     pub fn number(&self) -> u8
         ensures answer { result ≡ refusal_number self.now }
     {
         13
     }
-}
-
-// Whether the numbers of one kind end within the limit below.
-fn kind_fits<S: Store>(store: &S, spans: &Spans, kind: Kind) -> bool
-    ensures answer { Decides result (base_of spans.now kind + width_of spans.now kind ≤ (S.Store.disk store.now).limit kind) }
-{
-    let span = spans.of(kind);
-    let limit = store.limit(kind);
-    span.width <= limit && span.base <= limit - span.width
-}
-
-// Whether the numbers of every kind do.
-fn fits<S: Store>(store: &S, spans: &Spans) -> bool
-    ensures answer { Decides result (Within (S.Store.disk store.now) spans.now) }
-{
-    kind_fits(store, spans, Kind::Session) && kind_fits(store, spans, Kind::Message)
 }
 
 impl<S: Store> Window<S> {
@@ -60,7 +45,7 @@ impl<S: Store> Window<S> {
         ensures after { MatchResult result (λ w. (w.below ≡ below) × (w.spans ≡ spans)) (λ b. b.store ≡ below) }
         ensures limits { IfOk result (λ w. (k : AnyKind) → (view (S.Store.disk w.below) w.spans).limit k ≡ width_of spans k) }
     {
-        if fits(&below, &spans) {
+        if spans.lie_within(&below) {
             Ok(Window { below, spans })
         } else {
             Err(Beyond { store: below })
@@ -75,16 +60,15 @@ impl<S: Store> Window<S> {
         below
     }
 
-    // The number below of a number of the window, none at or above its limit.
-    fn place(&self, kind: Kind, number: u32) -> Option<u32>
-        ensures answer { MatchOption result ((view (S.Store.disk self.now.below) self.now.spans).limit kind ≤ number) (λ p. (number < (view (S.Store.disk self.now.below) self.now.spans).limit kind) × (p ≡ base_of self.now.spans kind + number)) }
+    // The number below of a number of the window; one at or above its limit is bad.
+    fn place(&self, kind: Kind, number: u32) -> Result<u32, Refusal>
+        ensures answer { MatchResult result (λ p. (number < (view (S.Store.disk self.now.below) self.now.spans).limit kind) × (p ≡ base_of self.now.spans kind + number)) (λ e. ((view (S.Store.disk self.now.below) self.now.spans).limit kind ≤ number) × (e ≡ Bad)) }
     {
         let span = self.spans.of(kind);
-        let limit = self.below.limit(kind);
-        if number < span.width && span.base < limit && number < limit - span.base {
-            Some(span.base + number)
+        if number < span.count_below(self.below.limit(kind)) {
+            Ok(span.base + number)
         } else {
-            None
+            Err(Refusal::Bad)
         }
     }
 }
@@ -99,30 +83,22 @@ impl<S: Store> Store for Window<S> {
     ghost sound = { λ w. view_sound (S.Store.disk w.below) w.spans (S.Store.sound w.below) };
 
     fn load(&self, kind: Kind, number: u32, buffer: &mut [u8]) -> Result<usize, Refusal> {
-        match self.place(kind, number) {
-            Some(at) => self.below.load(kind, at, buffer),
-            None => Err(Refusal::Bad),
-        }
+        let at = self.place(kind, number)?;
+        self.below.load(kind, at, buffer)
     }
 
     fn put(&mut self, kind: Kind, number: u32, row: &[u8]) -> Result<(), Refusal> {
-        match self.place(kind, number) {
-            Some(at) => self.below.put(kind, at, row),
-            None => Err(Refusal::Bad),
-        }
+        let at = self.place(kind, number)?;
+        self.below.put(kind, at, row)
     }
 
     fn drop_row(&mut self, kind: Kind, number: u32) -> Result<(), Refusal> {
-        match self.place(kind, number) {
-            Some(at) => self.below.drop_row(kind, at),
-            None => Err(Refusal::Bad),
-        }
+        let at = self.place(kind, number)?;
+        self.below.drop_row(kind, at)
     }
 
     fn limit(&self, kind: Kind) -> u32 {
-        let span = self.spans.of(kind);
-        span.width
-            .min(self.below.limit(kind).saturating_sub(span.base))
+        self.spans.of(kind).count_below(self.below.limit(kind))
     }
 
     fn free(&self) -> u32 {

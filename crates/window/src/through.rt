@@ -1,13 +1,14 @@
 // Changes made through a window of a store.
 ghost use Rattle.std.specs.Prelude.{◌≡◌};
 ghost use Rattle.window.specs.declared.span.Spans.{Spans as AnySpans};
+ghost use Rattle.window.specs.declared.through.ThroughError.TheVariants.{NoMemory};
 ghost use Rattle.window.specs.Span.{Apart};
 ghost use Rattle.window.specs.View.{view, around, Beside};
 ghost use Rattle.window.specs.Through.{Answers, through_after};
 
+use crate::Window;
 use crate::span::Spans;
-use crate::{Window, fits};
-use std::alloc::Global;
+use std::alloc::{AllocError, Global};
 use store::Store;
 use store::change::{Change, Outcome, apply};
 
@@ -18,6 +19,14 @@ pub enum ThroughError {
     Beyond,
     // There is not enough memory for the outcomes.
     NoMemory,
+}
+
+impl From<AllocError> for ThroughError {
+    ghost from_gives = { λ _ e. e ≡ NoMemory };
+
+    fn from(_none: AllocError) -> ThroughError {
+        ThroughError::NoMemory
+    }
 }
 
 // Makes the changes, in order, through a window of the store, and answers one outcome each.
@@ -33,15 +42,8 @@ pub fn apply_through<S: Store>(
     ensures beside { (other : AnySpans) → Apart spans other → Beside (S.Store.disk store.old) (S.Store.disk store.new) other }
     ensures rest { around (S.Store.disk store.new) (S.Store.rest store.new) spans ≡ around (S.Store.disk store.old) (S.Store.rest store.old) spans }
 {
-    if !fits(&*store, &spans) {
+    let Ok(mut window) = Window::new(store, spans) else {
         return Err(ThroughError::Beyond);
-    }
-    let mut window = Window {
-        below: store,
-        spans,
     };
-    match apply(heap, &mut window, changes) {
-        Ok(outcomes) => Ok(outcomes),
-        Err(_) => Err(ThroughError::NoMemory),
-    }
+    Ok(apply(heap, &mut window, changes)?)
 }
