@@ -4,7 +4,7 @@ use borrow.Rule.Slice.PartMut.{put_mid}
 use Rattle.std.proofs.lemmas.List.{drop-drop, take_at, drop_at, append-nil, take_more}
 use Rattle.std.proofs.lemmas.Grind.{flat_map-append}
 use Rattle.std.proofs.lemmas.List.Folds.{length-flat_map-take}
-use Rattle.writer.specs.Out.{front, pieced}
+use Rattle.writer.specs.Out.{front, joined}
 
 -- the first byte put at the start
 pub begun : (d : List ℕ) (x : ℕ) → 0 < length d → set d 0 x ≡ front d (x ∷ [])
@@ -23,22 +23,22 @@ next d xs ys zs {at} {end} a e z =
     (λ i. t i ++ (z i ++ drop (k i) (r i))) ∙ ap (λ l. xs ++ (ys ++ l)) u ∙ sym (append_assoc xs ys (drop (length (xs ++ ys)) d))
 
 -- one piece more
-pub piece_more : (ps : List (Bor (List ℕ))) (i : ℕ) (z : Bor (List ℕ)) → i < length ps → pieced (take (i + 1) ps) ≡ pieced (take i ps) ++ (get_or ps i z).now
-piece_more ps i z h = ap pieced (take_more ps i z h) ∙ flat_map-append (λ p. p.now) (take i ps) (get_or ps i z ∷ []) ∙ ap (λ l. pieced (take i ps) ++ l) (append-nil (get_or ps i z).now)
+pub piece_more : (ps : List (Bor (List ℕ))) (i : ℕ) (z : Bor (List ℕ)) → i < length ps → joined (take (i + 1) ps) ≡ joined (take i ps) ++ (get_or ps i z).now
+piece_more ps i z h = ap joined (take_more ps i z h) ∙ flat_map-append (λ p. p.now) (take i ps) (get_or ps i z ∷ []) ∙ ap (λ l. joined (take i ps) ++ l) (append-nil (get_or ps i z).now)
 
 -- a piece more stands behind the head and the pieces before it
 pub record Put (h : List ℕ) (ps : List (Bor (List ℕ))) (i : ℕ) (d e : List ℕ) (end : ℕ) : Type 0 where
-  pub place : end ≡ length (h ++ pieced (take i ps))
-  pub buffer : e ≡ front d (h ++ pieced (take i ps))
+  pub place : end ≡ length (h ++ joined (take i ps))
+  pub buffer : e ≡ front d (h ++ joined (take i ps))
 
 -- the next piece has room where all have
-pub put_room : (h : List ℕ) (ps : List (Bor (List ℕ))) (i : ℕ) (z : Bor (List ℕ)) (d e : List ℕ) (end : ℕ) → length h + length (pieced ps) ≤ length d → i < length ps → Put h ps i d e end
+pub put_room : (h : List ℕ) (ps : List (Bor (List ℕ))) (i : ℕ) (z : Bor (List ℕ)) (d e : List ℕ) (end : ℕ) → length h + length (joined ps) ≤ length d → i < length ps → Put h ps i d e end
     → (end + length (get_or ps i z).now ≤ length d) × (length e ≡ length d)
 unfolding front
 put_room h ps i z d e end room less p =
-    let done = h ++ pieced (take i ps) in
+    let done = h ++ joined (take i ps) in
     let one = length-flat_map-take (λ p. p.now) ps i z less in
-    let sum = length-append h (pieced (take i ps)) in
+    let sum = length-append h (joined (take i ps)) in
     let fits : end + length (get_or ps i z).now ≤ length d = omega (arith, p.place) in
     let rest = length-append done (drop (length done) d) in
     (fits, ap length p.buffer ∙ rest ∙ (let l = length-drop (length done) d in omega (arith, p.place)))
@@ -54,14 +54,14 @@ pub put_more : (h : List ℕ) (ps : List (Bor (List ℕ))) (i : ℕ) (z : Bor (L
     → Put h ps (i + 1) d (put_mid end (end + length (get_or ps i z).now - end) e zs) (end + length (get_or ps i z).now)
 put_more h ps i z d e zs end less same p =
     let piece = (get_or ps i z).now in
-    let done = h ++ pieced (take i ps) in
-    let all : done ++ piece ≡ h ++ pieced (take (i + 1) ps) = append_assoc h (pieced (take i ps)) piece ∙ ap (λ l. h ++ l) (sym (piece_more ps i z less)) in
+    let done = h ++ joined (take i ps) in
+    let all : done ++ piece ≡ h ++ joined (take (i + 1) ps) = append_assoc h (joined (take i ps)) piece ∙ ap (λ l. h ++ l) (sym (piece_more ps i z less)) in
     record {
       place = ap (λ k. k + length piece) p.place ∙ sym (length-append done piece) ∙ ap length all;
       buffer = ap (λ l. put_mid end (end + length piece - end) l zs) p.buffer ∙ next d done piece zs p.place refl same ∙ ap (λ l. front d l) all;
     }
 
-pub put_all : (h : List ℕ) (ps : List (Bor (List ℕ))) (i : ℕ) (d e : List ℕ) (end : ℕ) → length ps ≤ i → Put h ps i d e end → (end ≡ length (h ++ pieced ps)) × (e ≡ front d (h ++ pieced ps))
+pub put_all : (h : List ℕ) (ps : List (Bor (List ℕ))) (i : ℕ) (d e : List ℕ) (end : ℕ) → length ps ≤ i → Put h ps i d e end → (end ≡ length (h ++ joined ps)) × (e ≡ front d (h ++ joined ps))
 put_all h ps i d e end whole p =
     let all : take i ps ≡ ps = take_all i ps whole in
-    (p.place ∙ ap (λ l. length (h ++ pieced l)) all, p.buffer ∙ ap (λ l. front d (h ++ pieced l)) all)
+    (p.place ∙ ap (λ l. length (h ++ joined l)) all, p.buffer ∙ ap (λ l. front d (h ++ joined l)) all)

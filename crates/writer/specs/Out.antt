@@ -3,7 +3,6 @@ use Rattle.std.specs.Prelude.{◌≡◌, ℕ, ◌-◌, ◌^◌, ◌<◌, ◌≤�
 use Rattle.std.specs.Borrow.{Bor}
 use Rattle.std.specs.List.{flat_map}
 use Rattle.frame.specs.Parts.{packet_bytes}
-use Rattle.writer.specs.declared.out.Image.{Image}
 use Rattle.writer.specs.declared.out.WriteError.{WriteError}
 use Rattle.writer.specs.declared.out.WriteError.TheVariants.{Short, Unlawful}
 
@@ -29,9 +28,5 @@ abbrev pub Sent : Bool → ℕ → List ℕ → Result ℕ WriteError → List �
 Sent fields first body r d e = Written (fields && nat_le (length body) 540) (packet_bytes first body) r d e
 
 -- the pieces one after the other
-abbrev pub pieced : List (Bor (List ℕ)) → List ℕ
-pieced ps = flat_map (λ p. p.now) ps
-
--- what follows the remaining length
-abbrev pub joined : Image → List ℕ
-joined i = pieced i.body.now
+abbrev pub joined : List (Bor (List ℕ)) → List ℕ
+joined ps = flat_map (λ p. p.now) ps

@@ -1,5 +1,6 @@
 // A packet's bytes written into an out buffer.
 ghost use Rattle.std.specs.Prelude.{◌≡◌, ◌+◌, ◌≤◌, ◌∷◌, ◌++◌, length as len};
+ghost use Rattle.frame.specs.Length.{length_bytes};
 ghost use Rattle.writer.specs.Out.{Sent, counted, front, joined};
 
 use frame::length::ops::write_length;
@@ -25,25 +26,23 @@ impl Image<'_> {
     // is too short, or the fields are unlawful or the body has more than 540 bytes.
     // The flag stands beside the packet, since an unlawful one's length is told too where the buffer is too short.
     pub(crate) fn write_to(self, lawful: bool, out: &mut [u8]) -> Result<usize, WriteError>
-        ensures sent { Sent lawful self.entry.first (joined self.entry) result out.old out.new }
+        ensures sent { Sent lawful self.entry.first (joined self.entry.body.now) result out.old out.new }
     {
         let count = self.body_length();
-        let length = u32::try_from(count).ok().and_then(write_length);
-        let width = length.map_or(4, |length| length.as_slice().len());
-        let needed = count.saturating_add(1 + width);
+        let needed = count.saturating_add(1 + length_width(count));
         if out.len() < needed {
             return Err(WriteError::Short { needed });
         }
         if !lawful || count > BODY_BYTES {
             return Err(WriteError::Unlawful);
         }
-        let length = length.ok_or(WriteError::Unlawful)?;
+        let length = write_length(count as u32).ok_or(WriteError::Unlawful)?;
         Ok(self.put(length.as_slice(), out))
     }
 
     // How many bytes follow the remaining length, as far as a usize counts.
     fn body_length(self) -> usize
-        ensures answer { result ≡ counted (len (joined self.entry)) }
+        ensures answer { result ≡ counted (len (joined self.entry.body.now)) }
     {
         self.body
             .iter()
@@ -51,9 +50,9 @@ impl Image<'_> {
     }
 
     fn put(self, length: &[u8], out: &mut [u8]) -> usize
-        requires room { 1 + len length.now + len (joined self) ≤ len out.old }
-        ensures answer { result ≡ len (self.entry.first ∷ length.now ++ joined self.entry) }
-        ensures buffer { out.new ≡ front out.old (self.entry.first ∷ length.now ++ joined self.entry) }
+        requires room { 1 + len length.now + len (joined self.body.now) ≤ len out.old }
+        ensures answer { result ≡ len (self.entry.first ∷ length.now ++ joined self.entry.body.now) }
+        ensures buffer { out.new ≡ front out.old (self.entry.first ∷ length.now ++ joined self.entry.body.now) }
     {
         let mut end = 1 + length.len();
         out[0] = self.first;
@@ -65,4 +64,15 @@ impl Image<'_> {
         }
         end
     }
+}
+
+// How many bytes a remaining length takes: as many as are written, or four where four do not hold it.
+fn length_width(count: usize) -> usize
+    ensures answer { result ≡ len (length_bytes count) }
+    ensures bound { result ≤ 4 }
+{
+    u32::try_from(count)
+        .ok()
+        .and_then(write_length)
+        .map_or(4, |length| length.as_slice().len())
 }

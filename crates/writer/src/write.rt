@@ -201,7 +201,7 @@ fn is_id(id: u16) -> bool
 fn is_up_to_eight(count: usize) -> bool
     ensures answer { result ≡ up_to_eight count }
 {
-    count > 0 && count <= MAX_FILTERS
+    (1..=MAX_FILTERS).contains(&count)
 }
 
 fn are_codes(codes: &[u8]) -> bool
