@@ -87,9 +87,9 @@ text_by f test x y rest at n p true m e h =
     let wide = length-take-le n rest fit in
     let sum : length rest ≡ length (take n rest) + length (drop n rest) = simp (length-take, length-drop) (omega arith) in
     let number : x < 256 → y < 256 → x ∷ y ∷ rest ≡ number_bytes (length (take n rest)) ++ rest = λ j k.
-        let high : x ≡ length (take n rest) / 256 % 256 = omega arith in
-        let low : y ≡ length (take n rest) % 256 = omega arith in
-        λ i. high i ∷ low i ∷ rest in
+    let high : x ≡ length (take n rest) / 256 % 256 = omega arith in
+    let low : y ≡ length (take n rest) % 256 = omega arith in
+    λ i. high i ∷ low i ∷ rest in
     subst (λ r. Text test (x ∷ y ∷ rest) r) (ok_same _ p q.1) (record {
       passed = q.0;
       long = omega arith;

@@ -86,14 +86,16 @@ behind f e s g bytes place count kind =
     let long = ap length bytes ∙ length-append (entry_bytes e) g.part.now in
     let some = s.some in
     let on : g.place ≡ f.place + length (entry_bytes e) = omega (arith, long, place) in
-    let many : g.count + 1 ≡ f.count = omega arith in
-    (e, record {
-      whole = s.whole g bytes on many kind;
-      bytes = bytes ∙ ap (λ l. l ++ g.part.now) (sym (append-nil (entry_bytes e)));
-      many = omega arith;
-      kind = kind;
-      fitting = s.fitting;
-    })
+    let many : g.count + 1 ≡ f.count = omega arith in (
+      e,
+      record {
+        whole = s.whole g bytes on many kind;
+        bytes = bytes ∙ ap (λ l. l ++ g.part.now) (sym (append-nil (entry_bytes e)));
+        many = omega arith;
+        kind = kind;
+        fitting = s.fitting;
+      },
+    )
 
 entries_append : (es fs : List Entry) → entries_bytes (es ++ fs) ≡ entries_bytes es ++ entries_bytes fs
 entries_append [] fs = refl

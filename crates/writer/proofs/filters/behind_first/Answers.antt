@@ -3,9 +3,6 @@ use Rattle.packets.specs.Filters.{entry_of}
 use Rattle.writer.proofs.Firsts.{behind, first}
 use Rattle.writer.proofs.filters.behind_first.Goals as goal
 
-pub behind-rest-requires : goal.behind-rest-requires
-behind-rest-requires c = record { leads = (first c.args.filters (entry_of c.in_ok-first.first) (sym c.in_ok-first.ensures.answer)).leads }
-
 pub returns : goal.returns
 returns c =
     let f = c.args.filters in
