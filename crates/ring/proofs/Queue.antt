@@ -122,20 +122,19 @@ module _ {T : Type 0} where
       queues_more (length xs) (waiting r xs) ss bs (waiting r₁ xs₁) (waiting r₂ xs₂) s a l.0 (runs_queues run) (subst P l.1 (stepped_queues r₁ xs₁ s a r₂ xs₂ t))
 
   -- a loop's turn: the i-th step is performed, and its answer written to the i-th place
-  pub runs_more : (r : Ring) (xs : List T) (ss : List (Step T)) (bs cs : List (Answer T)) (i : ℕ) (r₁ r₂ : Ring) (xs₁ xs₂ : List T) (s : Step T) (a : Answer T)
-      → i < length ss → i < length bs → s ≡ get_or ss i s → cs ≡ set bs i a → Runs r xs (take i ss) (take i bs) r₁ xs₁ → Stepped r₁ xs₁ s a r₂ xs₂
-      → Runs r xs (take (i + 1) ss) (take (i + 1) cs) r₂ xs₂
-  runs_more r xs ss bs cs i r₁ r₂ xs₁ xs₂ s a in-s in_b read wrote run t =
+  pub runs_more : (r : Ring) (xs : List T) (ss : List (Step T)) (bs : List (Answer T)) (i : ℕ) (r₁ r₂ : Ring) (xs₁ xs₂ : List T) (s : Step T) (a : Answer T)
+      → i < length ss → i < length bs → s ≡ get_or ss i s → Runs r xs (take i ss) (take i bs) r₁ xs₁ → Stepped r₁ xs₁ s a r₂ xs₂
+      → Runs r xs (take (i + 1) ss) (take (i + 1) (set bs i a)) r₂ xs₂
+  runs_more r xs ss bs i r₁ r₂ xs₁ xs₂ s a in-s in_b read run t =
       let front : take i ss ++ s ∷ [] ≡ take (i + 1) ss = ap (λ z. take i ss ++ z ∷ []) read ∙ sym (take_more ss i s in-s) in
-      let back : take i bs ++ a ∷ [] ≡ take (i + 1) cs = sym (take_more_set bs i a in_b) ∙ ap (take (i + 1)) (sym wrote) in
+      let back : take i bs ++ a ∷ [] ≡ take (i + 1) (set bs i a) = sym (take_more_set bs i a in_b) in
       let P : List (Step T) → Type 0 = λ us. Runs r xs us (take i bs ++ a ∷ []) r₂ xs₂ in
       let Q : List (Answer T) → Type 0 = λ us. Runs r xs (take (i + 1) ss) us r₂ xs₂ in
       subst Q back (subst P front (next s a run t))
 
-  pub rest_more : (bs cs ds : List (Answer T)) (i : ℕ) (a : Answer T) → drop i bs ≡ drop i ds → cs ≡ set bs i a → drop (i + 1) cs ≡ drop (i + 1) ds
-  rest_more bs cs ds i a e wrote =
-      ap (drop (i + 1)) wrote
-      ∙ drop-set-lt (i + 1) bs i a (omega arith)
+  pub rest_more : (bs ds : List (Answer T)) (i : ℕ) (a : Answer T) → drop i bs ≡ drop i ds → drop (i + 1) (set bs i a) ≡ drop (i + 1) ds
+  rest_more bs ds i a e =
+      drop-set-lt (i + 1) bs i a (omega arith)
       ∙ sym (drop-drop 1 i bs)
       ∙ ap (drop 1) e
       ∙ drop-drop 1 i ds

@@ -17,6 +17,8 @@ place_far first n i in-i h =
     let less : first % n + i - n < n = omega arith in
     sym (mod-add-mod first n i) ∙ mod-eq-sub-mod h ∙ mod-eq_of_lt less
 
+pub ruleset places = (place_near, place_far)
+
 -- two numbers below n have two places
 pub place-apart : (first n i j : ℕ) → i < n → j < n → (first + i) % n ≡ (first + j) % n → i ≡ j
 place-apart first n i j in-i in-j e =

@@ -71,24 +71,24 @@ module _ {T : Type 0} (p : T → Bool) (ws ys : List T) (k i : ℕ) (x : T) (s :
 -- one turn in a ring: the entry in the place `at` is looked at, and written to the place `to` if it stays
 module _ {T : Type 0} (p : T → Bool) (first : ℕ) (xs ys : List T) (k i : ℕ) (x : T) (long : length ys ≡ length xs)
     (s : Sifted p (round (first % length xs) xs) (round (first % length xs) ys) k i) (in-i : i < length xs)
-    (at : ℕ) (at-is : at ≡ (first + i) % length xs) (read : x ≡ get_or ys at x) where
+    (at : ℕ) (at-is : at ≡ (first + i) % length ys) (read : x ≡ get_or ys at x) where
   inside : i < length (round (first % length xs) xs)
   inside = omega (arith, length-round (first % length xs) xs)
 
   read-round : x ≡ get_or (round (first % length xs) ys) i x
   read-round =
       read
-      ∙ ap (λ j. get_or ys j x) (at-is ∙ ap (λ n. (first + i) % n) (sym long))
+      ∙ ap (λ j. get_or ys j x) at-is
       ∙ sym (get_or-round first ys i (omega arith) x)
       ∙ ap (λ n. get_or (round (first % n) ys) i x) long
 
-  pub turn_stays : p x ≡ true → (to : ℕ) → to ≡ (first + k) % length xs → Sifted p (round (first % length xs) xs) (round (first % length xs) (set ys to x)) (k + 1) (i + 1)
+  pub turn_stays : p x ≡ true → (to : ℕ) → to ≡ (first + k) % length ys → Sifted p (round (first % length xs) xs) (round (first % length xs) (set ys to x)) (k + 1) (i + 1)
   turn_stays e to to_is =
       let ws = round (first % length xs) xs in
       let wrote : set (round (first % length xs) ys) k x ≡ round (first % length xs) (set ys to x) =
       ap (λ n. set (round (first % n) ys) k x) (sym long)
       ∙ sym (set-round first ys k (omega (arith, s.behind)) x)
-      ∙ ap (λ n. round (first % n) (set ys ((first + k) % n) x)) long
+      ∙ ap (λ n. round (first % n) (set ys ((first + k) % length ys) x)) long
       ∙ ap (λ j. round (first % length xs) (set ys j x)) (sym to_is) in
       let P : List T → Type 0 = λ zs. Sifted p ws zs (k + 1) (i + 1) in
       subst P wrote (sifted_stays p ws (round (first % length xs) ys) k i x s inside read-round e)

@@ -1,11 +1,11 @@
 -- Facts on what waits in a ring, for the calls here and for callers.
-use Rattle.std.proofs.Common.{◌≡◌, ℕ, suc, ◌+◌, ◌-◌, ◌%◌, ◌<◌, ◌≤◌, min, List, [], ◌∷◌, ◌++◌, length, get_or, take, set, Some, None, Option, sym, refl, ap, ◌∙◌, ⊎_elim, add-zero, mod-lt, mod-eq_of_lt, arith, length-set, length-take}
+use Rattle.std.proofs.Common.{◌≡◌, ℕ, suc, ◌+◌, ◌-◌, ◌%◌, ◌<◌, ◌≤◌, min, List, [], ◌∷◌, ◌++◌, length, get_or, take, drop, set, Some, None, Option, sym, refl, ap, ◌∙◌, ⊎_elim, add-zero, mod-lt, mod-eq_of_lt, arith, length-set, length-take}
 use native.Mathlib.Nat.{mod-add-mod, mod_self, mod-mod}
 use lib.Seq.{take-set-lt}
 use Rattle.std.proofs.lemmas.List.{take_more_set, take-append-le, get_or-take, take_all, nil_from_length}
 use Rattle.std.proofs.lemmas.Bool.{cases_lt}
 use Rattle.ring.specs.declared.Ring.{Ring}
-use Rattle.ring.specs.Ring.{round, waiting, place, empty, grown, advanced, Oldest, Got}
+use Rattle.ring.specs.Ring.{round, waiting, place, empty, grown, advanced, Oldest, Got, Taken}
 use Rattle.ring.proofs.Round.{length-round, get_or-round, set-round, others, length_others, round_here, round-next, round_last}
 
 pub waiting-empty : {T : Type 0} (xs : List T) → waiting empty xs ≡ []
@@ -94,8 +94,37 @@ module _ {T : Type 0} (r : Ring) (xs : List T) where
       ∙ ap (λ ys. x ∷ take m ys) (sym (round-advanced d in_f))
       ∙ ap (λ k. get_or xs k d ∷ take m (round (place r n 1 % n) xs)) at
 
+  -- where an entry is the first of those that wait, the memory has a place, and the entry leaves the others
+  pub popped_room : (x : T) → waiting r xs ≡ x ∷ drop 1 (waiting r xs) → 0 < length xs
+  popped_room x e = omega (arith, ap length e, waiting-length)
+
+  pub popped : (x : T) → waiting r xs ≡ x ∷ drop 1 (waiting r xs)
+      → Taken r xs x (record { first = (r.first % length xs + 1) % length xs; count = length (waiting r xs) - 1 })
+  popped x e =
+      let n = length xs in
+      let some : 0 < min r.count n = omega (arith, ap length e, waiting-length) in
+      let head = waiting_pop x some in
+      let is : get_or xs (place r n 0) x ≡ x = cc in
+      let r' : Ring = record { first = (r.first % n + 1) % n; count = length (waiting r xs) - 1 } in
+      let moved : r' ≡ advanced n r = (λ i. record { first = mod-add-mod r.first n 1 i; count = waiting-length i - 1 }) in
+      record {
+        after = head ∙ ap (λ y. y ∷ waiting (advanced n r) xs) is ∙ ap (λ s. x ∷ waiting s xs) (sym moved);
+        ring = moved;
+      }
+
 -- the oldest is the entry with the number 0
 pub oldest_from_got : {T : Type 0} (ws : List T) (o : Option T) → Got ws 0 o → Oldest ws o
 oldest_from_got ws None h = nil_from_length ws (omega arith)
 oldest_from_got [] (Some x) h = absurd (omega arith)
 oldest_from_got (w ∷ ws) (Some x) h = ap (λ y. y ∷ ws) (sym h.1)
+
+-- what the calls cite
+pub ruleset lengths = (waiting-length)
+
+pub ruleset pops = (popped_room, popped)
+
+pub ruleset pushes = (waiting-length, waiting_push)
+
+pub ruleset reads = (waiting-length, get_or-waiting)
+
+pub ruleset sets = (waiting-length, waiting-set)

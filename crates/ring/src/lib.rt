@@ -1,8 +1,8 @@
 // A ring: entries that wait, first in first out. It holds two numbers; the memory for its entries is lent to each call.
 #![tactic(auto)]
 
-ghost use Rattle.std.specs.Prelude.{◌≡◌, ◌+◌, ◌%◌, ◌<◌, length, ◌==◌};
-ghost use Rattle.ring.specs.Ring.{waiting, empty, Pushed, Popped, Oldest, Got, Placed, Waits};
+ghost use Rattle.std.specs.Prelude.{◌≡◌, ◌<◌, length, ◌==◌};
+ghost use Rattle.ring.specs.Ring.{waiting, place, empty, Pushed, Popped, Oldest, Got, Placed, Waits};
 
 pub mod remove;
 pub mod run;
@@ -10,21 +10,19 @@ pub mod run;
 mod tests;
 
 // Where the first entry stands and how many wait. Any two numbers are a ring: calls reduce them to the memory they are lent.
-#[derive(Clone, Copy)]
+#[derive(Clone, Copy, Debug)]
 pub struct Ring {
     first: usize,
     count: usize,
 }
 
-// The place of the i-th entry after `first`, going round in a memory of `size` places.
-fn place(first: usize, size: usize, i: usize) -> usize
-    requires { i < size }
-    ensures answer { result ≡ (first + i) % size }
-    ensures within { result < size }
-{
-    let start = first % size;
-    let gap = size - start;
-    if i < gap { start + i } else { i - gap }
+// A new ring.
+impl Default for Ring {
+    ghost is_default = { λ r. r ≡ empty };
+
+    fn default() -> Ring {
+        Ring::new()
+    }
 }
 
 impl Ring {
@@ -36,6 +34,7 @@ impl Ring {
     }
 
     // How many entries wait; never more than the memory has places.
+    #[tactic(auto, using(crate::proofs::Waiting::lengths))]
     pub fn len<T: Copy>(&self, memory: &[T]) -> usize
         ensures { result ≡ length (waiting self.now memory.now) }
     {
@@ -49,32 +48,40 @@ impl Ring {
         self.len(memory) == 0
     }
 
+    // The place of the i-th entry, going round in the memory.
+    #[tactic(auto, using(crate::proofs::Round::places))]
+    fn place<T: Copy>(&self, memory: &[T], i: usize) -> usize
+        requires { i < length memory.now }
+        ensures answer { result ≡ place self.now (length memory.now) i }
+        ensures within { result < length memory.now }
+    {
+        let start = self.first % memory.len();
+        let gap = memory.len() - start;
+        if i < gap { start + i } else { i - gap }
+    }
+
     // Appends the entry; refuses exactly when every place is taken, and hands the entry back.
+    #[tactic(auto, using(crate::proofs::Waiting::pushes))]
     pub fn push<T: Copy>(&mut self, memory: &mut [T], entry: T) -> Result<(), T>
         ensures { Pushed self.old memory.old entry result self.new memory.new }
     {
-        let size = memory.len();
-        if self.count >= size {
+        if self.count >= memory.len() {
             return Err(entry);
         }
-        let at = place(self.first, size, self.count);
+        let at = self.place(memory, self.count);
         memory[at] = entry;
         self.count += 1;
         Ok(())
     }
 
     // Takes the oldest entry; `None` exactly when nothing waits.
+    #[tactic(auto, using(crate::proofs::Waiting::pops))]
     pub fn pop<T: Copy>(&mut self, memory: &[T]) -> Option<T>
         ensures { Popped self.old memory.now result self.new }
     {
-        let size = memory.len();
-        let count = self.count.min(size);
-        if count == 0 {
-            return None;
-        }
-        let entry = memory[place(self.first, size, 0)];
-        self.first = (self.first % size + 1) % size;
-        self.count = count - 1;
+        let entry = self.oldest(memory)?;
+        self.count = self.len(memory) - 1;
+        self.first = (self.first % memory.len() + 1) % memory.len();
         Some(entry)
     }
 
@@ -86,24 +93,22 @@ impl Ring {
     }
 
     // The i-th oldest entry, from 0; `None` exactly when no more than `i` wait.
+    #[tactic(auto, using(crate::proofs::Waiting::reads))]
     pub fn get<T: Copy>(&self, memory: &[T], i: usize) -> Option<T>
         ensures { Got (waiting self.now memory.now) i result }
     {
-        if i >= self.len(memory) {
-            return None;
-        }
-        Some(memory[place(self.first, memory.len(), i)])
+        (i < self.len(memory)).then(|| memory[self.place(memory, i)])
     }
 
     // Puts `entry` in place of the i-th oldest; refuses exactly when no more than `i` wait, and hands the entry back.
+    #[tactic(auto, using(crate::proofs::Waiting::sets))]
     pub fn set<T: Copy>(&self, memory: &mut [T], i: usize, entry: T) -> Result<(), T>
         ensures { Placed self.now memory.old i entry result memory.new }
     {
-        let size = memory.len();
-        if i >= self.count.min(size) {
+        if i >= self.len(memory) {
             return Err(entry);
         }
-        let at = place(self.first, size, i);
+        let at = self.place(memory, i);
         memory[at] = entry;
         Ok(())
     }

@@ -3,9 +3,10 @@ ghost use Rattle.std.specs.Prelude.{◌≡◌, Bool, length, filter};
 ghost use Rattle.ring.specs.Ring.{waiting};
 ghost use Rattle.ring.specs.Remove.{Removed};
 
-use super::{Ring, place};
+use super::Ring;
 
-// A test on entries: `picked` says which it picks, and `picks` answers so.
+// A test on entries: `picked` says which it picks, and `picks` answers so. A trait and no closure: to call a closure takes a `requires`,
+// which no public function has, and what `remove` promises is said by `picked`.
 pub trait Pick<T> {
     ghost picked: { Self → T → Bool };
 
@@ -19,14 +20,14 @@ impl Ring {
         ensures answer { result ≡ length (filter (P.picked pick.now) (waiting self.old memory.old)) }
         ensures after { Removed (P.picked pick.now) self.old memory.old self.new memory.new }
     {
-        let size = memory.len();
-        let count = self.count.min(size);
+        let count = self.len(memory);
+        // Counted: an entry's place goes round with the memory.
         let mut stay = 0;
         for i in 0..count {
-            let entry = memory[place(self.first, size, i)];
+            let entry = memory[self.place(memory, i)];
             let goes = pick.picks(&entry);
             if !goes {
-                let at = place(self.first, size, stay);
+                let at = self.place(memory, stay);
                 memory[at] = entry;
                 stay += 1;
             }

@@ -6,25 +6,17 @@ ghost use Rattle.ring.specs.Run.{Stepped, Runs, Queues};
 use super::Ring;
 
 // One call of a run.
-#[derive(Clone, Copy)]
+#[derive(Clone, Copy, Debug, PartialEq, Eq)]
 pub enum Step<T> {
     Push(T),
     Pop,
 }
 
 // What that call answered.
-#[derive(Clone, Copy)]
+#[derive(Clone, Copy, Debug, PartialEq, Eq)]
 pub enum Answer<T> {
     OfPush(Result<(), T>),
     OfPop(Option<T>),
-}
-
-// Writes one place of a list of any items.
-fn put<A: Copy>(list: &mut [A], i: usize, item: A)
-    requires { i < length list.old }
-    ensures { list.new ≡ slice_set list.old i item }
-{
-    list[i] = item;
 }
 
 impl Ring {
@@ -51,9 +43,9 @@ impl Ring {
         ensures queue { Queues (length memory.old) (waiting self.old memory.old) (take result steps.now) (take result answers.new) (waiting self.new memory.new) }
     {
         let count = steps.len().min(answers.len());
+        // Counted: of what a zip over answers.iter_mut() wrote a proof learns nothing, and an index for the answers alone is no plainer.
         for i in 0..count {
-            let answer = self.step(memory, steps[i]);
-            put(answers, i, answer);
+            answers[i] = self.step(memory, steps[i]);
         }
         count
     }

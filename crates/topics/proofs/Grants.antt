@@ -1,24 +1,12 @@
 -- What subscriptions grant, one by one and together.
-use Rattle.std.proofs.Common.{◌≡◌, ℕ, ◌+◌, ◌<◌, ◌≤◌, Bool, true, false, cond, leb, List, [], ◌∷◌, ◌++◌, map, length, get_or, take, Some, None, fold, Option, sym, refl, ap, ◌∙◌, subst, arith}
+use Rattle.std.proofs.Common.{◌≡◌, ℕ, ◌≤◌, Bool, true, false, cond, leb, List, [], ◌∷◌, ◌++◌, Some, None, fold, Option, sym, refl, ap, subst, arith}
 use Rattle.std.proofs.ByRecursion.{All-push, All-weaker, has_append_left, has_push}
-use Rattle.std.proofs.lemmas.List.{append-nil, append_assoc, map_more}
-use Rattle.std.proofs.lemmas.List.Sums.{fold_push}
+use Rattle.std.proofs.lemmas.List.{append-nil, append_assoc}
 use Rattle.std.proofs.lemmas.Bool.{leb-true, leb-false, both_ways}
 use Rattle.topics.specs.declared.qos.Qos.{Qos}
-use Rattle.topics.specs.declared.subscription.Subscription.{Subscription}
 use Rattle.topics.specs.Matching.{takes}
 use Rattle.topics.specs.Qos.{qos_number}
-use Rattle.topics.specs.Subscription.{GrantedLaw, Highest, Subscribed, granted, higher, raised, subscribed}
-
--- no subscription grants nothing
-pub granted-none : (t : List ℕ) → granted [] t ≡ None
-unfolding granted
-granted-none t = refl
-
--- one subscription more is one step more
-pub granted_push : (ss : List Subscribed) (s : Subscribed) (t : List ℕ) → granted (ss ++ s ∷ []) t ≡ raised (granted ss t) s.filter s.qos t
-unfolding granted
-granted_push ss s t = fold_push (λ best x. raised best x.filter x.qos t) None ss s
+use Rattle.topics.specs.Subscription.{GrantedLaw, Highest, Subscribed, granted, higher, raised}
 
 -- a filter that takes the topic, and one that does not
 pub raised-takes : (best : Option Qos) (f : List ℕ) (q : Qos) (t : List ℕ) → takes f t ≡ true → raised best f q t ≡ higher best q
@@ -77,11 +65,3 @@ module _ (t : List ℕ) where
 pub granted_law : GrantedLaw
 unfolding granted
 granted_law ss t = from_here t [] ss None tt
-
--- the same for a slice of the code, at one place more
-pub granted_more : (xs : List Subscription) (t : List ℕ) (i : ℕ) (d : Subscription) (best : Option Qos) → i < length xs → best ≡ granted (map subscribed (take i xs)) t
-    → raised best (get_or xs i d).filter.now (get_or xs i d).qos t ≡ granted (map subscribed (take (i + 1) xs)) t
-granted_more xs t i d best h e =
-    ap (λ b. raised b (get_or xs i d).filter.now (get_or xs i d).qos t) e
-    ∙ sym (granted_push (map subscribed (take i xs)) (subscribed (get_or xs i d)) t)
-    ∙ ap (λ ss. granted ss t) (sym (map_more subscribed xs i d h))

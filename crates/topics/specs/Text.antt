@@ -1,12 +1,12 @@
 -- The text rule.
-use Rattle.std.specs.Prelude.{◌≡◌, ℕ, Bool, true, not, ◌&&◌, List, [], ◌∷◌, Decides, ◌==◌}
+use Rattle.std.specs.Prelude.{◌≡◌, ℕ, Bool, true, not, ◌&&◌, List, Decides, ◌==◌}
+use Rattle.std.specs.List.{list_all}
 use Rattle.std.proofs.Math.Utf8.{encodes, scalars}
 use Rattle.std.specs.Str.{chars, bytes_eq}
 
 -- each number of the list passes the test
 abbrev pub every : (ℕ → Bool) → List ℕ → Bool
-every test [] = true
-every test (x ∷ xs) = test x && every test xs
+every = list_all
 
 -- well-formed UTF-8: the bytes are the encoding of the Unicode scalar values that they stand for
 unfoldable pub well_formed : List ℕ → Bool

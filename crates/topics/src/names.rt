@@ -2,8 +2,8 @@
 ghost use Rattle.std.specs.Prelude.{◌≡◌};
 ghost use Rattle.std.specs.Char.{is_ascii_alphanumeric};
 ghost use Rattle.topics.specs.Levels.{levels};
-ghost use Rattle.topics.specs.Names.{FirstWildcard, NamesLaw, is_client_id, is_topic_filter, is_topic_name, lawful_from, sized, wildcard};
 ghost use Rattle.topics.specs.Text.{every};
+ghost use Rattle.topics.specs.Names.{FirstWildcard, NamesLaw, is_client_id, is_topic_filter, is_topic_name, lawful_from, sized, wildcard};
 
 use crate::text::is_text;
 
@@ -14,6 +14,7 @@ pub const MAX_TOPIC: usize = 64;
 pub const MAX_CLIENT_ID: usize = 23;
 
 /// Whether the bytes are a topic name: 1 to 64 bytes of text with neither + nor #.
+#[tactic(auto, using(crate::proofs::Wildcards::first_wildcard), unfolding(crate::specs::Names::is_topic_name))]
 pub fn is_topic_name(bytes: &[u8]) -> bool
     ensures answer { result ≡ is_topic_name bytes.now }
 {
@@ -21,6 +22,7 @@ pub fn is_topic_name(bytes: &[u8]) -> bool
 }
 
 /// Whether the bytes are a topic filter: 1 to 64 bytes of text, + only as a whole level, # only as the whole last level.
+#[tactic(auto, unfolding(crate::specs::Names::is_topic_filter))]
 pub fn is_topic_filter(bytes: &[u8]) -> bool
     ensures answer { result ≡ is_topic_filter bytes.now }
 {
@@ -28,6 +30,7 @@ pub fn is_topic_filter(bytes: &[u8]) -> bool
 }
 
 /// Whether the bytes are a client identifier: 1 to 23 bytes of 0-9, A-Z and a-z.
+#[tactic(auto, unfolding(crate::specs::Names::is_client_id))]
 pub fn is_client_identifier(bytes: &[u8]) -> bool
     ensures answer { result ≡ is_client_id bytes.now }
 {
@@ -35,6 +38,7 @@ pub fn is_client_identifier(bytes: &[u8]) -> bool
 }
 
 /// A client identifier is text, and a topic name is a topic filter.
+#[tactic(auto, using(crate::proofs::NameFacts::names_law))]
 pub fn names_law()
     ensures law { NamesLaw }
 {}
@@ -48,10 +52,10 @@ fn is_sized(bytes: &[u8], most: usize) -> bool
 fn is_wildcard(b: u8) -> bool
     ensures answer { result ≡ wildcard b }
 {
-    b == b'+' || b == b'#'
+    matches!(b, b'+' | b'#')
 }
 
-// The place of the first + or #.
+// The place of the first + or #. A for with an index, not a chain: the rule for topic names asks for that search.
 fn first_wildcard(bytes: &[u8]) -> Option<usize>
     ensures answer { FirstWildcard bytes.now result }
 {
@@ -64,6 +68,7 @@ fn first_wildcard(bytes: &[u8]) -> Option<usize>
 }
 
 // Whether each level from here on is lawful. A level starts here, or one that is no wildcard goes on.
+#[tactic(auto, using(crate::proofs::Wildcards::lawful_steps))]
 fn has_lawful_levels(filter: &[u8], start: bool) -> bool
     ensures answer { result ≡ lawful_from start (levels filter.now) }
 {
@@ -79,10 +84,5 @@ fn has_lawful_levels(filter: &[u8], start: bool) -> bool
 fn is_alphanumeric(bytes: &[u8]) -> bool
     ensures answer { result ≡ every is_ascii_alphanumeric bytes.now }
 {
-    for b in bytes {
-        if !b.is_ascii_alphanumeric() {
-            return false;
-        }
-    }
-    true
+    bytes.iter().all(u8::is_ascii_alphanumeric)
 }

@@ -49,14 +49,14 @@ impl Qos {
         self as u8
     }
 
-    /// The lesser of the two.
+    /// The lesser of the two. Beside Ord's min, as this contract says in the words of the rules which one comes out.
     pub fn lesser(self, other: Qos) -> Qos
         ensures answer { result ≡ lesser self other }
     {
         self.min(other)
     }
 
-    /// The greater of the two.
+    /// The greater of the two. Beside Ord's max, for the same reason.
     pub fn greater(self, other: Qos) -> Qos
         ensures answer { result ≡ greater self other }
     {
@@ -65,6 +65,7 @@ impl Qos {
 }
 
 /// Each number up to 2 stands for one quality of service, and lesser and greater go by these numbers.
+#[tactic(auto, using(crate::proofs::Qualities::qos_law))]
 pub fn qos_law()
     ensures law { QosLaw }
 {}

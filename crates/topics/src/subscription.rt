@@ -6,37 +6,38 @@ use crate::matching::matches;
 use crate::qos::Qos;
 
 /// A topic filter and the quality of service that it asks for.
-#[derive(Clone, Copy)]
+#[derive(Clone, Copy, Debug, PartialEq, Eq)]
 pub struct Subscription<'a> {
     pub filter: &'a [u8],
     pub qos: Qos,
 }
 
+impl Subscription<'_> {
+    /// What is granted so far, raised by this subscription where its filter takes the topic.
+    #[tactic(auto, unfolding(crate::specs::Subscription::raised))]
+    pub fn raise(&self, best: Option<Qos>, topic: &[u8]) -> Option<Qos>
+        ensures answer { result ≡ raised best self.now.filter.now self.now.qos topic.now }
+    {
+        if matches(self.filter, topic) {
+            best.max(Some(self.qos))
+        } else {
+            best
+        }
+    }
+}
+
 /// The highest quality of service among the subscriptions whose filter takes the topic, or none where no filter does.
+#[tactic(auto, unfolding(crate::specs::Subscription::granted))]
 pub fn granted(subscriptions: &[Subscription], topic: &[u8]) -> Option<Qos>
     ensures answer { result ≡ granted (map subscribed subscriptions.now) topic.now }
 {
-    let mut best = None;
-    for s in subscriptions {
-        best = raise(best, s.filter, s.qos, topic);
-    }
-    best
-}
-
-/// What is granted so far, raised by one more filter where that takes the topic.
-pub fn raise(best: Option<Qos>, filter: &[u8], qos: Qos, topic: &[u8]) -> Option<Qos>
-    ensures answer { result ≡ raised best filter.now qos topic.now }
-{
-    if !matches(filter, topic) {
-        return best;
-    }
-    match best {
-        Some(b) => Some(b.greater(qos)),
-        None => Some(qos),
-    }
+    subscriptions
+        .iter()
+        .fold(None, |best, s| s.raise(best, topic))
 }
 
 /// What is granted is the highest of what takes the topic.
+#[tactic(auto, using(crate::proofs::Grants::granted_law))]
 pub fn granted_law()
     ensures law { GrantedLaw }
 {}

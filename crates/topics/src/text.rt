@@ -6,33 +6,21 @@ ghost use Rattle.topics.specs.Text.{TextLaw, allowed, every, is_text};
 use std::str::from_utf8;
 
 /// Whether the bytes are text: well-formed UTF-8 without U+0000.
+#[tactic(auto, using(crate::proofs::Texts::text_utf8, crate::proofs::Texts::text_not_utf8))]
 pub fn is_text(bytes: &[u8]) -> bool
     ensures answer { result ≡ is_text bytes.now }
 {
-    match from_utf8(bytes) {
-        Ok(text) => is_allowed(text),
-        Err(_) => false,
-    }
+    from_utf8(bytes).is_ok_and(is_allowed)
 }
 
 fn is_allowed(text: &str) -> bool
     ensures answer { result ≡ every allowed (chars text.now) }
 {
-    for c in text.chars() {
-        if !is_allowed_char(c) {
-            return false;
-        }
-    }
-    true
-}
-
-fn is_allowed_char(c: char) -> bool
-    ensures answer { result ≡ allowed c }
-{
-    c != '\0'
+    text.chars().all(|c| c != '\0')
 }
 
 /// A text is the encoding of some characters that are all allowed, and nothing else is one.
+#[tactic(auto, using(crate::proofs::Texts::text_law))]
 pub fn text_law()
     ensures law { TextLaw }
 {}

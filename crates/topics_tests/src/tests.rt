@@ -125,5 +125,5 @@ fn grants(rt: HostRuntime) {
     ];
     assert_eq!(rt; granted(&subscriptions, b"a/b"), Some(Qos::ExactlyOnce));
     assert_eq!(rt; granted(&subscriptions, b"a/c"), Some(Qos::AtLeastOnce));
-    assert_eq!(rt; granted(&subscriptions, b"b"), Qos::from_number(3));
+    assert_eq!(rt; granted(&subscriptions, b"b"), Qos::try_from(3).ok());
 }

@@ -1,14 +1,18 @@
 use Rattle.std.proofs.Common.{◌≡◌, ℕ, ◌-◌, ◌%◌, ◌<◌, min, Bool, true, false, not, length, ap, ◌∙◌, subst, arith}
 use Rattle.ring.specs.Ring.{round}
+use Rattle.ring.proofs.Waiting.{waiting-length, waiting_fits}
 use Rattle.ring.proofs.Sift.{Sifted, stays_from, goes_from, sifted_none, turn_stays, turn_goes, gone, removed}
 use Rattle.ring.proofs.Ring.remove.Goals as goal
 use Rattle.ring.proofs.Ring.remove.Goals.{then-not-goes, else-not-goes}
+
+pub place-requires : goal.place-requires
+place-requires g c = omega (arith, waiting_fits c.args.self.now c.args.memory.now)
 
 pub loop-i-init : goal.loop-i-init
 loop-i-init g c = sifted_none _ _
 
 pub place-at-requires : goal.place-at-requires
-place-at-requires g c = omega (arith, c.loop-i.invariant.behind)
+place-at-requires g c = omega (arith, c.loop-i.invariant.behind, waiting_fits c.args.self.now c.args.memory.now)
 
 pub overflow_add-stay : goal.overflow_add-stay
 overflow_add-stay g c = omega (arith, c.loop-i.invariant.behind)
@@ -23,7 +27,7 @@ loop-i-preserved g c =
     let k = c.loop-i.stay in
     let i = c.loop-i.i in
     let x = c.index-memory-place.result in
-    let inside : i < length xs = omega arith in
+    let inside : i < length xs = omega (arith, waiting_fits c.args.self.now xs) in
     let at = c.place.result in
     elim c.if-not-goes.branch [
       | then-not-goes w ↦
@@ -47,9 +51,9 @@ returns g c =
     let ys = c.loop-i.memory in
     let k = c.loop-i.stay in
     let P : ℕ → Type 0 = λ n. Sifted (λ x. not (picked x)) (round (r.first % length xs) xs) (round (r.first % length xs) ys) k n in
-    let all : c.loop-i.i ≡ min r.count (length xs) = omega arith in
+    let all : c.loop-i.i ≡ min r.count (length xs) = omega (arith, waiting-length r xs) in
     let done = subst P all c.loop-i.invariant in
     record {
-      answer = ap (λ n. n - k) c.min-count.ensures ∙ gone picked r xs ys k c.loop-i.auto.memory done;
+      answer = ap (λ n. n - k) (c.len-count.ensures ∙ waiting-length r xs) ∙ gone picked r xs ys k c.loop-i.auto.memory done;
       after = removed picked r xs ys k c.loop-i.auto.memory done;
     }

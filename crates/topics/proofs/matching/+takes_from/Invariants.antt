@@ -1,5 +1,5 @@
-use Rattle.std.proofs.Common.{◌+◌, length}
+use Rattle.std.proofs.Common.{length}
 use Rattle.topics.proofs.matching.+takes_from.Given as goal
 
 abbrev pub decreases-takes_from : goal.decreases-takes_from
-decreases-takes_from l = length l.filter.now + length l.topic.now
+decreases-takes_from l = length l.filter.now
