@@ -1,5 +1,7 @@
 -- Whatever is read of bytes is lawful.
-use Rattle.std.proofs.Common.{◌≡◌, ℕ, zero, suc, ◌+◌, ◌*◌, ◌/◌, ◌%◌, ◌<◌, ◌≤◌, Bool, true, false, cond, not, ◌&&◌, eqb, ltb, leb, List, [], ◌∷◌, length, take, drop, Some, None, Ok, Err, Option, Result, sym, refl, ap, ◌∙◌, subst, arith, length-append, length-drop, length-take}
+use Rattle.std.proofs.Common.{◌≡◌, ℕ, zero, suc, ◌+◌, ◌*◌, ◌/◌, ◌%◌, ◌<◌, ◌≤◌, Bool, true, false, cond, not, ◌&&◌, eqb, ltb, leb, List, [], ◌∷◌, length, ◌++◌, take, drop, Some, None, Ok, Err, Option, Result, sym, refl, ap, ◌∙◌, append_assoc, subst, arith, length-append, length-drop, length-take, take-append-drop}
+use Rattle.std.proofs.lemmas.List.{append-nil, length-take-le}
+use Rattle.topics.proofs.Qualities.{qos_law}
 use Rattle.std.proofs.ByRecursion.{All-drop}
 use Rattle.std.proofs.lemmas.Bool.Decides.{nat_tests}
 use Rattle.std.specs.Str.{bytes_eq}
@@ -8,18 +10,18 @@ use Rattle.frame.specs.declared.field.Field.{Field}
 use Rattle.frame.specs.declared.first_byte.PacketType.{PacketType}
 use Rattle.frame.specs.declared.first_byte.PacketType.TheVariants.{Connect, ConnAck, Publish, PubAck, PubRec, PubRel, PubComp, Subscribe, SubAck, Unsubscribe, UnsubAck, PingReq, PingResp, Disconnect}
 use Rattle.frame.specs.FirstByte.{allows, announced, numbered, type_in}
-use Rattle.frame.specs.Number.{number_in}
+use Rattle.frame.specs.Number.{number_bytes, number_in}
 use Rattle.frame.specs.Parts.{Told, parts_in}
 use Rattle.frame.proofs.Apart.{is_there}
 use Rattle.topics.specs.declared.qos.Qos.{Qos}
 use Rattle.topics.specs.declared.qos.Qos.TheVariants.{AtMostOnce, AtLeastOnce, ExactlyOnce}
-use Rattle.topics.specs.Qos.{qos_of}
+use Rattle.topics.specs.Qos.{qos_number, qos_of}
 use Rattle.topics.specs.Names.{is_topic_filter, is_topic_name}
 use Rattle.topics.specs.Text.{every, is_text}
 use Rattle.packets.specs.declared.packet.ReadError.{ReadError}
-use Rattle.packets.specs.Bytes.{body_of, entries_bytes, entry_bytes, is_asked, is_id, lawful, lawful_entries, lawful_fields, lawful_flow}
+use Rattle.packets.specs.Bytes.{body_of, entries_bytes, entry_bytes, is_asked, is_id, lawful, lawful_entries, lawful_fields, lawful_flow, text_bytes}
 use Rattle.packets.specs.Fields.{byte_in, ended, identified, identifier_in, judged, length_prefixed, only_identifier, onward, text_in}
-use Rattle.packets.specs.Filters.{Entry, Found, after_filter, asked, asked_in, before, filter_in, filters_in, some_filters}
+use Rattle.packets.specs.Filters.{Entry, Found, after_filter, asked, before, filter_in, filters_in, some_filters}
 use Rattle.packets.specs.Packet.{Content, publish, puback, pubrec, pubrel, pubcomp, suback, unsuback, pingreq, pingresp, disconnect}
 use Rattle.packets.specs.Reads.{ack_in, after_flags, after_keep_alive, after_level, after_name, after_parts, after_present, after_topic, body_in, client_in, codes_in, connack_in, connect_in, filters_of, flags_in, is_code, keep_alive_in, level_in, numbered_in, payload_in, protocol_name, publish_in, reads, return_code_in, some_codes, suback_in, subscribe_in, topic_in, with_qos}
 use Rattle.packets.specs.Reads.{after_first}
@@ -30,7 +32,7 @@ use Rattle.writer.specs.Laws.{Bytes, ReadsLawful}
 never : {A B : Type 0} (e : ReadError) (x : A) → ◌≡◌ {A = Result A ReadError} (Err e) (Ok x) → B
 never e x h = let z : ◌≡◌ {A = ℕ} 0 1 = cc in absurd (omega arith)
 
-ok_same : {A : Type 0} (x y : A) → ◌≡◌ {A = Result A ReadError} (Ok x) (Ok y) → x ≡ y
+pub ok_same : {A : Type 0} (x y : A) → ◌≡◌ {A = Result A ReadError} (Ok x) (Ok y) → x ≡ y
 ok_same x y h = cc
 
 onward_ok : {A B : Type 0} (f : A → Result B ReadError) (r : Result A ReadError) (c : B) → onward f r ≡ Ok c → (x : A) × ((r ≡ Ok x) × (f x ≡ Ok c))
@@ -74,26 +76,37 @@ id_ok bs at p b h = id_by bs at p b h
 pub record Text (test : List ℕ → Bool) (bs : List ℕ) (p : List ℕ × List ℕ) : Type 0 where
   pub passed : test p.0 ≡ true
   pub long : length bs ≡ 2 + length p.0 + length p.1
-  pub bytes : Bytes p.1
+  pub whole : Bytes bs → bs ≡ text_bytes p.0 ++ p.1
+  pub bytes : Bytes bs → Bytes p.1
 
-text_by : (f : Field) (test : List ℕ → Bool) (x y : ℕ) (rest : List ℕ) (at n : ℕ) (p : List ℕ × List ℕ) (v : Bool) → Bytes rest → leb n (length rest) ≡ v
+text_by : (f : Field) (test : List ℕ → Bool) (x y : ℕ) (rest : List ℕ) (at n : ℕ) (p : List ℕ × List ℕ) (v : Bool) → n ≡ 256 * x + y → leb n (length rest) ≡ v
     → judged f test (x ∷ y ∷ rest) at (cond v (Some (take n rest, drop n rest)) None) ≡ Ok p → Text test (x ∷ y ∷ rest) p
-text_by f test x y rest at n p true b e h =
+text_by f test x y rest at n p true m e h =
     let q = passes (test (take n rest)) _ _ p h in
     let fit : n ≤ length rest = grind (arith, nat_tests) in
+    let wide = length-take-le n rest fit in
     let sum : length rest ≡ length (take n rest) + length (drop n rest) = simp (length-take, length-drop) (omega arith) in
-    subst (λ r. Text test (x ∷ y ∷ rest) r) (ok_same _ p q.1) (record { passed = q.0; long = omega arith; bytes = All-drop (λ k. k < 256) n rest b })
-text_by f test x y rest at n p false b e h = never _ p h
+    let number : x < 256 → y < 256 → x ∷ y ∷ rest ≡ number_bytes (length (take n rest)) ++ rest = λ j k.
+    let high : x ≡ length (take n rest) / 256 % 256 = omega arith in
+    let low : y ≡ length (take n rest) % 256 = omega arith in
+    λ i. high i ∷ low i ∷ rest in
+    subst (λ r. Text test (x ∷ y ∷ rest) r) (ok_same _ p q.1) (record {
+      passed = q.0;
+      long = omega arith;
+      whole = λ b. number b.0 b.1.0 ∙ ap (λ l. number_bytes (length (take n rest)) ++ l) (sym (take-append-drop n rest));
+      bytes = λ b. All-drop (λ k. k < 256) n rest b.1.1;
+    })
+text_by f test x y rest at n p false m e h = never _ p h
 
-text_list : (f : Field) (test : List ℕ → Bool) (bs : List ℕ) (at : ℕ) (p : List ℕ × List ℕ) → Bytes bs → judged f test bs at (length_prefixed bs) ≡ Ok p → Text test bs p
+text_list : (f : Field) (test : List ℕ → Bool) (bs : List ℕ) (at : ℕ) (p : List ℕ × List ℕ) → judged f test bs at (length_prefixed bs) ≡ Ok p → Text test bs p
 unfolding length_prefixed
-text_list f test [] at p b h = never _ p h
-text_list f test (x ∷ []) at p b h = never _ p h
-text_list f test (x ∷ y ∷ rest) at p b h = text_by f test x y rest at (256 * x + y) p (leb (256 * x + y) (length rest)) b.1.1 refl h
+text_list f test [] at p h = never _ p h
+text_list f test (x ∷ []) at p h = never _ p h
+text_list f test (x ∷ y ∷ rest) at p h = text_by f test x y rest at (256 * x + y) p (leb (256 * x + y) (length rest)) refl refl h
 
-text_ok : (f : Field) (test : List ℕ → Bool) (bs : List ℕ) (at : ℕ) (p : List ℕ × List ℕ) → Bytes bs → text_in f test bs at ≡ Ok p → Text test bs p
+text_ok : (f : Field) (test : List ℕ → Bool) (bs : List ℕ) (at : ℕ) (p : List ℕ × List ℕ) → text_in f test bs at ≡ Ok p → Text test bs p
 unfolding text_in
-text_ok f test bs at p b h = text_list f test bs at p b h
+text_ok f test bs at p h = text_list f test bs at p h
 
 -- ---- packets: lawful fields, and a body as long as what was read
 
@@ -106,7 +119,7 @@ client_ok : (bs : List ℕ) (at : ℕ) (c : Content) → Bytes bs → client_in 
 unfolding client_in
 client_ok bs at c b h =
     let o = onward_ok _ (text_in _ is_text bs at) c h in
-    let t = text_ok _ is_text bs at o.0 b o.1.0 in
+    let t = text_ok _ is_text bs at o.0 o.1.0 in
     let e = ended_ok o.0.1 _ _ c o.1.1 in
     let none : length o.0.1 ≡ 0 = ap length e.0 in
     subst (λ x. Good x (10 + length bs)) e.1 (record { fields = t.passed; long = omega arith })
@@ -190,8 +203,8 @@ topic_ok : (dup : Bool) (qos : Qos) (bs : List ℕ) (at : ℕ) (c : Content) →
 unfolding topic_in
 topic_ok dup qos bs at c b d h =
     let o = onward_ok _ (text_in _ is_topic_name bs at) c h in
-    let t = text_ok _ is_topic_name bs at o.0 b o.1.0 in
-    let g = after_topic_lem dup qos o.0.0 at o.0.1 _ c t.bytes t.passed d o.1.1 in
+    let t = text_ok _ is_topic_name bs at o.0 o.1.0 in
+    let g = after_topic_lem dup qos o.0.0 at o.0.1 _ c (t.bytes b) t.passed d o.1.1 in
     subst (λ n. Good c n) (sym t.long) g
 
 -- DUP stands only with a QoS above 0
@@ -222,37 +235,36 @@ ack_ok ack g bs at c b h =
     subst (λ x. Good x (length bs)) (ok_same _ c o.1.1) (subst (λ n. Good (ack o.0) n) two (g o.0 id))
 
 -- SUBSCRIBE and UNSUBSCRIBE
-pub record Filtered (graded : Bool) (bs : List ℕ) (x : Found) : Type 0 where
+pub record Filtered (graded : Bool) (bs : List ℕ) (at : ℕ) (x : Found) : Type 0 where
   pub filter : is_topic_filter x.entry.filter ≡ true
   pub qos : cond graded (is_asked x.entry.qos) (not (is_asked x.entry.qos)) ≡ true
   pub long : length bs ≡ length (entry_bytes x.entry) + length x.rest
-  pub bytes : Bytes x.rest
+  pub whole : Bytes bs → bs ≡ entry_bytes x.entry ++ x.rest
+  pub bytes : Bytes bs → Bytes x.rest
 
-asked_by : (text : List ℕ) (at : ℕ) (q : ℕ) (rest : List ℕ) (x : Found) (o : Option Qos) (n : ℕ) → Bytes rest → is_topic_filter text ≡ true → n ≡ 3 + length text + length rest
-    → asked text at rest o ≡ Ok x → (bs : List ℕ) → length bs ≡ n → Filtered true bs x
-asked_by text at q rest x None n b t l h bs e = never _ x h
-asked_by text at q rest x (Some g) n b t l h bs e =
-    let sum : length (entry_bytes (record { filter = text; place = at; qos = Some g })) ≡ 3 + length text = simp length-append (omega arith) in
-    subst (λ y. Filtered true bs y) (ok_same _ x h) (record { filter = t; qos = refl; long = omega arith; bytes = b })
+asked_by : (text : List ℕ) (at q : ℕ) (rest : List ℕ) (x : Found) (o : Option Qos) (bs : List ℕ) → is_topic_filter text ≡ true → length bs ≡ 2 + length text + (1 + length rest)
+    → (Bytes bs → bs ≡ text_bytes text ++ (q ∷ rest)) → (Bytes bs → Bytes (q ∷ rest)) → qos_of q ≡ o → asked text at rest o ≡ Ok x → Filtered true bs at x
+asked_by text at q rest x None bs t l w b k h = never _ x h
+asked_by text at q rest x (Some g) bs t l w b k h =
+    let same : text_bytes text ++ (q ∷ rest) ≡ (text_bytes text ++ (qos_number g ∷ [])) ++ rest = ap (λ n. text_bytes text ++ (n ∷ rest)) (qos_law.back q g k) ∙ sym (append_assoc (text_bytes text) (qos_number g ∷ []) rest) in
+    let long : length bs ≡ length (text_bytes text ++ (qos_number g ∷ [])) + length rest = simp length-append (omega arith) in
+    subst (λ y. Filtered true bs at y) (ok_same _ x h) (record { filter = t; qos = refl; long = long; whole = λ v. w v ∙ same; bytes = λ v. (b v).1 })
 
-asked_ok : (text : List ℕ) (at : ℕ) (after : List ℕ) (x : Found) (bs : List ℕ) → Bytes after → is_topic_filter text ≡ true → length bs ≡ 2 + length text + length after
-    → asked_in text at after (byte_in after) ≡ Ok x → Filtered true bs x
-asked_ok text at [] x bs b t l h = never _ x h
-asked_ok text at (q ∷ rest) x bs b t l h = asked_by text at q rest x (qos_of q) (length bs) b.1 t (omega arith) h bs refl
+after_ok : (graded : Bool) (text : List ℕ) (at : ℕ) (after : List ℕ) (x : Found) (bs : List ℕ) → is_topic_filter text ≡ true → length bs ≡ 2 + length text + length after
+    → (Bytes bs → bs ≡ text_bytes text ++ after) → (Bytes bs → Bytes after) → after_filter graded text at after ≡ Ok x → Filtered graded bs at x
+after_ok true text at [] x bs t l w b h = never _ x h
+after_ok true text at (q ∷ rest) x bs t l w b h = asked_by text at q rest x (qos_of q) bs t (omega arith) w b refl h
+after_ok false text at after x bs t l w b h =
+    let same : text_bytes text ++ after ≡ (text_bytes text ++ []) ++ after = ap (λ l. l ++ after) (sym (append-nil (text_bytes text))) in
+    let long : length bs ≡ length (text_bytes text ++ []) + length after = simp length-append (omega arith) in
+    subst (λ y. Filtered false bs at y) (ok_same _ x h) (record { filter = t; qos = refl; long = long; whole = λ v. w v ∙ same; bytes = b })
 
-after_ok : (graded : Bool) (text : List ℕ) (at : ℕ) (after : List ℕ) (x : Found) (bs : List ℕ) → Bytes after → is_topic_filter text ≡ true → length bs ≡ 2 + length text + length after
-    → after_filter graded text at after ≡ Ok x → Filtered graded bs x
-after_ok true text at after x bs b t l h = asked_ok text at after x bs b t l h
-after_ok false text at after x bs b t l h =
-    let sum : length (entry_bytes (record { filter = text; place = at; qos = None })) ≡ 2 + length text = simp length-append (omega arith) in
-    subst (λ y. Filtered false bs y) (ok_same _ x h) (record { filter = t; qos = refl; long = omega arith; bytes = b })
-
-filter_ok : (graded : Bool) (bs : List ℕ) (at : ℕ) (x : Found) → Bytes bs → filter_in graded bs at ≡ Ok x → Filtered graded bs x
+pub filter_ok : (graded : Bool) (bs : List ℕ) (at : ℕ) (x : Found) → filter_in graded bs at ≡ Ok x → Filtered graded bs at x
 unfolding filter_in
-filter_ok graded bs at x b h =
+filter_ok graded bs at x h =
     let o = onward_ok _ (text_in _ is_topic_filter bs at) x h in
-    let t = text_ok _ is_topic_filter bs at o.0 b o.1.0 in
-    after_ok graded o.0.0 at o.0.1 x bs t.bytes t.passed t.long o.1.1
+    let t = text_ok _ is_topic_filter bs at o.0 o.1.0 in
+    after_ok graded o.0.0 at o.0.1 x bs t.passed t.long t.whole t.bytes o.1.1
 
 pub record Listed (graded : Bool) (k n : ℕ) (es : List Entry) : Type 0 where
   pub few : length es ≤ k
@@ -269,9 +281,9 @@ filters_ok graded zero (x ∷ bs) at es b h = never _ es h
 filters_ok graded (suc k) [] at es b h = subst (λ x. Listed graded (suc k) 0 x) (ok_same _ es h) (record { few = omega arith; lawful-each = refl; long = refl })
 filters_ok graded (suc k) (x ∷ bs) at es b h =
     let o = onward_ok _ (filter_in graded (x ∷ bs) at) es h in
-    let f = filter_ok graded (x ∷ bs) at o.0 b o.1.0 in
+    let f = filter_ok graded (x ∷ bs) at o.0 o.1.0 in
     let g = before_ok o.0.entry _ es o.1.1 in
-    let l = filters_ok graded k o.0.rest o.0.next g.0 f.bytes g.1.0 in
+    let l = filters_ok graded k o.0.rest o.0.next g.0 (f.bytes b) g.1.0 in
     let each : lawful_entries graded (o.0.entry ∷ g.0) ≡ true = simp (f.filter, f.qos, l.lawful-each) in
     let rest : length (entry_bytes o.0.entry) + length (entries_bytes g.0) ≡ length (x ∷ bs) = omega (arith, f.long, l.long) in
     let sum : length (entries_bytes (o.0.entry ∷ g.0)) ≡ length (x ∷ bs) = length-append (entry_bytes o.0.entry) (entries_bytes g.0) ∙ rest in

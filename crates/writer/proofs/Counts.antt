@@ -1,9 +1,10 @@
 -- How long a packet is, as far as 64 bits count.
-use Rattle.std.proofs.Common.{◌≡◌, ℕ, suc, ◌+◌, ◌-◌, ◌/◌, ◌%◌, ◌^◌, ◌<◌, ◌≤◌, min, Bool, true, false, cond, ◌&&◌, ltb, leb, ◌⊎◌, List, [], ◌∷◌, ◌++◌, length, sym, refl, ap, ◌∙◌, ⊎_elim, arith, length-append}
+use Rattle.std.proofs.Common.{◌≡◌, ℕ, suc, ◌+◌, ◌-◌, ◌/◌, ◌%◌, ◌^◌, ◌<◌, ◌≤◌, min, Bool, true, false, cond, ◌&&◌, ltb, leb, ◌⊎◌, List, [], ◌∷◌, ◌++◌, length, sym, refl, ap, ◌∙◌, ⊎_elim, arith, length-append, add-zero, zero-add, Bor}
+use Rattle.std.specs.List.{fold}
 use Rattle.std.proofs.lemmas.Bool.{and_from, and_left, and_right, cases_lt, le-leb, le-ltb, lt-leb}
 use Rattle.frame.specs.Length.{length_bytes}
 use Rattle.frame.specs.Parts.{packet_bytes}
-use Rattle.writer.specs.Out.{counted, front}
+use Rattle.writer.specs.Out.{counted, front, joined}
 
 pub counted_small : (n : ℕ) → n ≤ 2 ^ 64 - 1 → counted n ≡ n
 unfolding counted
@@ -55,16 +56,22 @@ needed first body {n} {w} en ew es =
     let same : w ≡ length (length_bytes (length body)) = ew ∙ ap (λ k. length (length_bytes k)) en ∙ width_counted (length body) in
     es ∙ (λ i. min (en i + (1 + same i)) (2 ^ 64 - 1)) ∙ counted-sum (length body) (1 + length (length_bytes (length body))) ∙ ap counted (sym (length_packet first body))
 
--- four lengths added up
-pub four : (a b c d : List ℕ) {x y z : ℕ} → x ≡ min (length a + length b) (2 ^ 64 - 1) → y ≡ min (x + length c) (2 ^ 64 - 1) → z ≡ min (y + length d) (2 ^ 64 - 1) → z ≡ counted (length (a ++ (b ++ (c ++ d))))
+-- the lengths of pieces added up
+summed : (ps : List (Bor (List ℕ))) (n : ℕ) → fold (λ k p. min (k + length p.now) (2 ^ 64 - 1)) (counted n) ps ≡ counted (n + length (joined ps))
+summed [] n = ap counted (sym (add-zero n))
+summed (p ∷ ps) n =
+    let long : n + length p.now + length (joined ps) ≡ n + length (joined (p ∷ ps)) = rw (length-append p.now (joined ps)) (omega arith) in
+    ap (λ k. fold (λ k p. min (k + length p.now) (2 ^ 64 - 1)) k ps) (counted-sum n (length p.now)) ∙ summed ps (n + length p.now) ∙ ap counted long
+
+pub added : (ps : List (Bor (List ℕ))) → fold (λ k p. min (k + length p.now) (2 ^ 64 - 1)) 0 ps ≡ counted (length (joined ps))
 unfolding counted
-four a b c d ex ey ez = simp length-append (omega arith)
+added ps = summed ps 0 ∙ ap counted (zero-add (length (joined ps)))
 
 -- where there is room the body's length is counted exactly, and the whole packet goes in
-pub roomy : (first : ℕ) (body : List ℕ) (room n : ℕ) → room < 2 ^ 63 → n ≡ counted (length body) → counted (length (packet_bytes first body)) ≤ room
+pub roomy : (first : ℕ) (body : List ℕ) (room : ℕ) {n w sum : ℕ} → room < 2 ^ 63 → n ≡ counted (length body) → w ≡ length (length_bytes n) → sum ≡ min (n + (1 + w)) (2 ^ 64 - 1) → sum ≤ room
     → (length (packet_bytes first body) ≤ room) × (n ≡ length body)
-roomy first body room n small en h =
-    let all = counted_room (length (packet_bytes first body)) room small h in
+roomy first body room small en ew es h =
+    let all = counted_room (length (packet_bytes first body)) room small (omega (arith, needed first body en ew es)) in
     let part : length body ≤ room = omega (arith, length_packet first body) in
     (all, en ∙ counted_small (length body) (omega arith))
 

@@ -1,7 +1,8 @@
 pub mod Fronts
 pub mod Counts
+pub mod Lists
+pub mod Sending
 pub mod Trips
 pub mod Accepted
+pub mod Firsts
 pub mod Again
-pub mod Widths
-pub mod Sending

@@ -1,28 +1,23 @@
 -- How much of a part is filters: words of private functions.
-use Rattle.std.specs.Prelude.{◌≡◌, ℕ, ◌≤◌, Bool, true, false, cond, not, List, ◌++◌, length, take, is_ok, Some, None, Option}
-use Rattle.topics.specs.declared.qos.Qos.{Qos}
-use Rattle.topics.specs.Names.{is_topic_filter}
-use Rattle.packets.specs.Filters.{Entry, filter_in}
-use Rattle.packets.specs.Bytes.{entries_bytes, is_asked, lawful_entries, qos_bytes, text_bytes}
+use Rattle.std.specs.Prelude.{◌≡◌, ℕ, ◌+◌, Bool, true, List, ◌++◌, length, Ok}
+use Rattle.packets.specs.declared.packet.Filters.{Filters}
+use Rattle.packets.specs.Filters.{Entry, Found, entries_of, filter_in}
+use Rattle.packets.specs.Bytes.{entries_bytes, lawful_entries}
 
--- some bytes begin with a filter that takes k bytes
-pub record Begins (graded : Bool) (bs : List ℕ) (k : ℕ) : Type 0 where
-  pub filter : List ℕ
-  pub qos : Option Qos
-  pub rest : List ℕ
-  pub bytes : bs ≡ (text_bytes filter ++ qos_bytes qos) ++ rest
-  pub wide : k ≡ length (text_bytes filter ++ qos_bytes qos)
-  pub lawful : is_topic_filter filter ≡ true
-  pub fitting : cond graded (is_asked qos) (not (is_asked qos)) ≡ true
-
--- the width of the filter that some bytes begin with, or none where no filter is read there
-abbrev pub Width : Bool → List ℕ → Option ℕ → Type 0
-Width graded bs None = (at : ℕ) → is_ok (filter_in graded bs at) ≡ false
-Width graded bs (Some k) = Begins graded bs k
-
--- the filters of a part are so many, all of one kind, and take so many bytes from its start on
-pub record Spans (es : List Entry) (graded : Bool) (part : List ℕ) (count used : ℕ) : Type 0 where
+-- filters all of one kind, how many they are and the bytes that they take
+pub record Spans (es : List Entry) (graded : Bool) (count : ℕ) (bytes : List ℕ) : Type 0 where
   pub many : length es ≡ count
-  pub bytes : entries_bytes es ≡ take used part
-  pub room : used ≤ length part
+  pub same : bytes ≡ entries_bytes es
   pub fitting : lawful_entries graded es ≡ true
+
+-- some bytes begin with an entry, as it is read at some place
+abbrev pub Leads : List ℕ → Entry → Type 0
+Leads bs e = (graded : Bool) × (at : ℕ) × (x : Found) × (filter_in graded bs at ≡ Ok x) × (x.entry ≡ e)
+
+-- the filters of a part: these stand at its start, and the others are those of the rest
+pub record Follows (f : Filters) (es : List Entry) (rest : Filters) : Type 0 where
+  pub whole : entries_of f ≡ es ++ entries_of rest
+  pub bytes : f.part.now ≡ entries_bytes es ++ rest.part.now
+  pub many : f.count ≡ length es + rest.count
+  pub kind : rest.with_qos ≡ f.with_qos
+  pub fitting : lawful_entries f.with_qos es ≡ true

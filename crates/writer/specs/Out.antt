@@ -1,7 +1,8 @@
 -- A packet's bytes in an out buffer.
-use Rattle.std.specs.Prelude.{◌≡◌, ℕ, ◌+◌, ◌-◌, ◌^◌, ◌<◌, ◌≤◌, min, Bool, true, false, ◌&&◌, List, ◌++◌, length, take, drop, Ok, Err, Result, nat_le}
+use Rattle.std.specs.Prelude.{◌≡◌, ℕ, ◌-◌, ◌^◌, ◌<◌, ◌≤◌, min, Bool, true, false, ◌&&◌, List, ◌++◌, length, drop, Ok, Err, Result, nat_le}
+use Rattle.std.specs.Borrow.{Bor}
+use Rattle.std.specs.List.{flat_map}
 use Rattle.frame.specs.Parts.{packet_bytes}
-use Rattle.writer.specs.declared.out.Image.{Image}
 use Rattle.writer.specs.declared.out.WriteError.{WriteError}
 use Rattle.writer.specs.declared.out.WriteError.TheVariants.{Short, Unlawful}
 
@@ -26,10 +27,6 @@ Written lawful bs (Ok n) d e = (length bs ≤ length d) × (lawful ≡ true) × 
 abbrev pub Sent : Bool → ℕ → List ℕ → Result ℕ WriteError → List ℕ → List ℕ → Type 0
 Sent fields first body r d e = Written (fields && nat_le (length body) 540) (packet_bytes first body) r d e
 
--- what follows the remaining length
-abbrev pub joined : Image → List ℕ
-joined i = i.lead.now ++ (i.second.now ++ (i.third.now ++ i.rest.now))
-
--- the buffer d with xs from a place on, and the rest of it as it was
-unfoldable pub over : List ℕ → ℕ → List ℕ → List ℕ
-over d at xs = take at d ++ (xs ++ drop (at + length xs) d)
+-- the pieces one after the other
+abbrev pub joined : List (Bor (List ℕ)) → List ℕ
+joined ps = flat_map (λ p. p.now) ps

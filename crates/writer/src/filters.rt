@@ -1,65 +1,42 @@
 // How much of a part is filters.
-ghost use Rattle.std.specs.Prelude.{ℕ};
-ghost use Rattle.packets.specs.Filters.{entries_of, first_filters};
-ghost use Rattle.writer.specs.Filters.{Spans, Width};
+ghost use Rattle.std.specs.Prelude.{◌≡◌, ℕ, [], ◌∷◌, ◌++◌, MatchOption};
+ghost use Rattle.packets.specs.Bytes.{entry_bytes};
+ghost use Rattle.packets.specs.Filters.{Entry, entries_of, entry_of};
+ghost use Rattle.writer.specs.Filters.{Follows, Leads, Spans};
 
-use frame::number::read_number;
-use packets::packet::Filters;
-use topics::names::is_topic_filter;
-use topics::qos::Qos;
+use packets::packet::{Filter, Filters};
 
-// How many filters the part holds, and how many bytes they take: none where the part would end beyond the last index.
-pub(crate) fn measure(filters: &Filters<'_>) -> (usize, usize)
-    ensures answer { Spans (entries_of filters.now) filters.now.with_qos filters.now.part.now result.0 result.1 }
+// How many filters the part holds, and the bytes that they take: none where the part would end beyond the last index.
+pub(crate) fn held<'a>(filters: &Filters<'a>) -> (usize, &'a [u8])
+    ensures answer { Spans (entries_of filters.now) filters.now.with_qos result.0 result.1.now }
 {
-    let place = filters.place;
-    let room = usize::MAX - filters.part.len();
-    if place > room {
-        return (0, 0);
+    let mut left = *filters;
+    while let Some(rest) = behind_first(left) {
+        left = rest;
     }
-    scan(filters.part, filters.with_qos, filters.count)
+    let used = filters.part.len() - left.part.len();
+    (filters.count - left.count, &filters.part[..used])
 }
 
-// The first filters of the part, so many at most: how many they are, and how many bytes they take.
-fn scan(part: &[u8], with_qos: bool, most: usize) -> (usize, usize)
-    ensures answer { (place : ℕ) → Spans (first_filters with_qos most part.now place) with_qos part.now result.0 result.1 }
+// The filters behind the first, or none where there is no first.
+fn behind_first(filters: Filters<'_>) -> Option<Filters<'_>>
+    ensures answer { MatchOption result (entries_of filters.entry ≡ []) (λ rest. (e : Entry) × Follows filters.entry (e ∷ []) rest) }
 {
-    let mut count = 0;
-    let mut used = 0;
-    while count < most {
-        match entry_length(&part[used..], with_qos) {
-            Some(length) => {
-                used += length;
-                count += 1;
-            }
-            None => return (count, used),
-        }
-    }
-    (count, used)
+    let first = filters.get(0)?;
+    let rest = behind(filters.part, first);
+    Some(Filters {
+        part: rest,
+        place: filters.place + (filters.part.len() - rest.len()),
+        count: filters.count - 1,
+        with_qos: filters.with_qos,
+    })
 }
 
-// The length of the filter at the front, with its QoS byte where it has one, or none where no whole filter is there.
-fn entry_length(bytes: &[u8], with_qos: bool) -> Option<usize>
-    ensures answer { Width with_qos bytes.now result }
+// The bytes behind the filter that a part begins with.
+fn behind<'a>(part: &'a [u8], first: Filter<'_>) -> &'a [u8]
+    requires leads { Leads part.now (entry_of first) }
+    ensures answer { part.now ≡ entry_bytes (entry_of first.entry) ++ result.now }
 {
-    let Some((length, rest)) = read_number(bytes) else {
-        return None;
-    };
-    let length = length as usize;
-    if length > rest.len() {
-        return None;
-    }
-    if !is_topic_filter(&rest[0..length]) {
-        return None;
-    }
-    if !with_qos {
-        return Some(length + 2);
-    }
-    if length == rest.len() {
-        return None;
-    }
-    match Qos::from_number(rest[length]) {
-        Some(_) => Some(length + 3),
-        None => None,
-    }
+    let width = 2 + first.bytes.len() + usize::from(first.qos.is_some());
+    &part[width..]
 }
