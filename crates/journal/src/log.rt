@@ -8,6 +8,7 @@ use crate::places::Places;
 pub mod ops;
 
 // The places that are taken come first; the index has where the latest change of each key stands.
+// A count beside the places: those past it keep their memory, since no call allocates.
 #[derive(Drop)]
 pub(crate) struct Log {
     places: Places,

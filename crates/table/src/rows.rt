@@ -5,7 +5,7 @@ use store::row::RowBuffer;
 
 pub mod ops;
 
-// A place for every key: sessions by number, then messages.
+// A place for every key: sessions by number, then messages. Places and no map: no call allocates.
 #[derive(Drop)]
 pub(crate) struct Rows {
     places: Vec<RowBuffer>,
