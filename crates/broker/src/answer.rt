@@ -48,10 +48,10 @@ impl Refusal {
             Refusal::WrongPacket => 4,
             Refusal::RepliesFull => 5,
             Refusal::NoRoom => 6,
-            Refusal::ShortBuffer { needed: _ } => 8,
+            Refusal::ShortBuffer { .. } => 8,
             Refusal::StoreGone => 9,
             Refusal::Down => 10,
-            Refusal::BadRow { kind: _, number: _ } => 11,
+            Refusal::BadRow { .. } => 11,
             Refusal::TooFewNumbers => 13,
         }
     }
