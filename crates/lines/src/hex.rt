@@ -32,6 +32,8 @@ fn read_pairs(heap: Global, digits: &[u8]) -> Result<Option<Vec<u8>>, AllocError
 {
     let mut bytes = Vec::new(heap);
     let mut rest = digits;
+    // Apart from the loop of `unescape_each`: one loop for both takes its reader as a parameter, and then has to ask
+    // of any reader that it shortens the text and that two answers for one text agree.
     while let [high, low, more @ ..] = rest {
         let (Some(high), Some(low)) = (value_of(*high), value_of(*low)) else {
             return Ok(None);

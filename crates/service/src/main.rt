@@ -30,7 +30,8 @@ fn run(rt: &HostRuntime) -> anyhow::Result<()> {
     Ok(())
 }
 
-// The arguments as one line, with blanks between them.
+// The arguments as one line, with blanks between them. No `join`: that puts a blank behind empty arguments at the
+// front too, and the line is printed where it is not understood.
 fn command_line(rt: &HostRuntime) -> anyhow::Result<String> {
     let mut line = String::new(rt.alloc());
     for argument in env::args(rt)?.skip(1) {
@@ -42,7 +43,8 @@ fn command_line(rt: &HostRuntime) -> anyhow::Result<String> {
     Ok(line)
 }
 
-// Answers each line of standard input, and says whether there was any.
+// Answers each line of standard input, and says whether there was any. By bytes and not by `rt.lines`, which stops at
+// the first line that is no UTF-8.
 fn answer_input(rt: &HostRuntime) -> anyhow::Result<bool> {
     let heap: Global = rt.alloc();
     let mut any = false;
