@@ -1,5 +1,6 @@
 -- The answer to a line: which store stands then, and what is printed.
-use Rattle.std.specs.Prelude.{◌≡◌, ℕ, ◌≤◌, cond, List, [], ◌++◌, Some, None, Ok, Err, string_bytes, codes, Option, Result, nat_lt}
+use Rattle.std.specs.Prelude.{◌≡◌, ℕ, ◌≤◌, cond, List, [], ◌++◌, Some, None, Ok, Err, string_bytes, codes, Option, Result, String, nat_lt}
+use Rattle.std.specs.declared.alloc.Global.{Global}
 use Rattle.lines.specs.Escape.{escaped}
 use Rattle.lines.specs.Hex.{hex_in}
 use Rattle.store.specs.declared.kind.Kind.{Kind}
@@ -102,6 +103,11 @@ Performs (power w) o line t = PowerTurn w o line t
 Performs free o line t = FreeTurn o line t
 Performs (limit k) o line t = LimitTurn k o line t
 Performs unknown o line t = NotUnderstood o line t
+
+-- what a call on a store is told by, from the store before and after: a text, or none where it is not understood and alters nothing
+abbrev pub Tells : Asked → Pile → Pile → Option (String Global) → Type 0
+Tells q p r (Some text) = (line : List ℕ) → Performs q (Some p) line (record { pile = Some r; text = text })
+Tells q p r None = (r ≡ p) × ((line : List ℕ) (t : Turn) → NotUnderstood (Some p) line t → Performs q (Some p) line t)
 
 -- a line is answered as what it asks for
 pub record Answers (o : Option Pile) (line : List ℕ) (t : Turn) : Type 0 where

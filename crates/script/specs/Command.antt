@@ -1,5 +1,5 @@
 -- The commands of a script.
-use Rattle.std.specs.Prelude.{◌≡◌, ℕ, Bool, cond, List, length, Some, None, codes, Option, ◌==◌}
+use Rattle.std.specs.Prelude.{◌≡◌, ℕ, Bool, cond, List, length, Some, None, Ok, Err, codes, Option, Result, ◌==◌}
 use Rattle.std.specs.Str.{bytes_eq}
 use Rattle.lines.specs.Decimal.{Reads}
 use Rattle.lines.specs.Words.{skip_blanks, word_in, after_word}
@@ -10,7 +10,9 @@ use Rattle.window.specs.declared.span.Spans.{Spans}
 use Rattle.script.specs.declared.command.BaseName.{BaseName}
 use Rattle.script.specs.declared.command.BaseName.TheVariants.{Table, Journal}
 use Rattle.script.specs.declared.command.Command.{Command}
-use Rattle.script.specs.declared.command.Command.TheVariants.{Nothing, Store, Window, Load, Put, Drop, Power, Free, Limit, Unknown}
+use Rattle.script.specs.declared.command.Command.TheVariants.{Nothing, Store, Window, Call}
+use Rattle.script.specs.declared.command.Call.TheVariants.{Load, Put, Drop, Power, Free, Limit}
+use Rattle.script.specs.declared.command.UnknownCommand.{UnknownCommand}
 
 -- what a line asks for
 pub data Asked : Type 0 where
@@ -26,17 +28,17 @@ pub data Asked : Type 0 where
   unknown : Asked
 
 -- a command with the bytes in place of the borrowed word
-abbrev pub asked : Command → Asked
-asked Nothing = nothing
-asked (Store base rows) = store base rows
-asked (Window spans) = window spans
-asked (Load kind number) = load kind number
-asked (Put kind number hex) = put kind number hex.now
-asked (Drop kind number) = drop kind number
-asked (Power writes) = power writes
-asked Free = free
-asked (Limit kind) = limit kind
-asked Unknown = unknown
+abbrev pub asked : Result Command UnknownCommand → Asked
+asked (Ok Nothing) = nothing
+asked (Ok (Store base rows)) = store base rows
+asked (Ok (Window spans)) = window spans
+asked (Ok (Call (Load kind number))) = load kind number
+asked (Ok (Call (Put kind number hex))) = put kind number hex.now
+asked (Ok (Call (Drop kind number))) = drop kind number
+asked (Ok (Call (Power writes))) = power writes
+asked (Ok (Call Free)) = free
+asked (Ok (Call (Limit kind))) = limit kind
+asked (Err e) = unknown
 
 -- the kind with a number, if there is a number
 abbrev pub kind_in : Option ℕ → Option Kind
@@ -63,9 +65,14 @@ abbrev pub one_of : List ℕ → Option ℕ → Asked
 one_of name None = unknown
 one_of name (Some n) = cond (bytes_eq name (codes "power")) (power n) (cond (bytes_eq name (codes "limit")) (limit_of (kind_of n)) unknown)
 
+-- `table` or `journal`
+abbrev pub base_in : List ℕ → Option BaseName
+base_in what = cond (bytes_eq what (codes "table")) (Some Table) (cond (bytes_eq what (codes "journal")) (Some Journal) None)
+
 -- `store table N` or `store journal N`
-abbrev pub store_of : List ℕ → ℕ → Asked
-store_of what rows = cond (bytes_eq what (codes "table")) (store Table rows) (cond (bytes_eq what (codes "journal")) (store Journal rows) unknown)
+abbrev pub store_of : Option BaseName → ℕ → Asked
+store_of None rows = unknown
+store_of (Some base) rows = store base rows
 
 -- `load K N` or `drop K N`
 abbrev pub key_of : List ℕ → Option Kind → ℕ → Asked
@@ -74,7 +81,7 @@ key_of name (Some k) n = cond (bytes_eq name (codes "load")) (load k n) (cond (b
 
 abbrev pub two_of : List ℕ → List ℕ → Option ℕ → Option ℕ → Asked
 two_of name first k None = unknown
-two_of name first k (Some n) = cond (bytes_eq name (codes "store")) (store_of first n) (key_of name (kind_in k) n)
+two_of name first k (Some n) = cond (bytes_eq name (codes "store")) (store_of (base_in first) n) (key_of name (kind_in k) n)
 
 -- `put K N HEX`
 abbrev pub put_of : List ℕ → Option Kind → ℕ → List ℕ → Asked

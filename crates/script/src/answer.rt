@@ -1,22 +1,23 @@
 // The answer to a line of a script.
-ghost use Rattle.std.specs.Prelude.{◌≡◌, IfOk, string_bytes};
-ghost use Rattle.lines.specs.Hex.{hex_in};
+ghost use Rattle.std.specs.Prelude.{◌≡◌, IfOk, Some, Ok, string_bytes};
 ghost use Rattle.store.specs.Making.{Makes};
 ghost use Rattle.pile.specs.Pile.{pile_disk};
-ghost use Rattle.script.specs.Command.{asked};
-ghost use Rattle.script.specs.Answer.{On, StoreTurn, WindowOn, WindowRefused, WindowTurn, LoadTurn, PutTurn, DropTurn, PowerTurn, FreeTurn, LimitTurn, NotUnderstood, Performs, Answers};
+ghost use Rattle.script.specs.declared.command.Command.TheVariants.{Call as ACall};
+ghost use Rattle.script.specs.Command.{asked, put};
+ghost use Rattle.script.specs.Answer.{On, Prints, StoreTurn, WindowOn, WindowRefused, NotUnderstood, Performs, Tells, Answers};
 
 use crate::calls::{drop_line, free_line, limit_line, load_line, put_line};
-use crate::command::{BaseName, Command, read_command};
-use lines::error::LineError;
-use lines::escape::escape;
-use lines::hex::read_hex;
+use crate::command::{BaseName, Call, Command, UnknownCommand, read_command};
+use journal::Journal;
+use lines::escape::Escaped;
+use lines::hex::hex_bytes;
 use pile::Pile;
 use pile::ops::{StackRefusal, Unstacked};
 use std::alloc::{AllocError, Global};
 use store::Store;
 use store::kind::Kind;
 use store::making::MakeError;
+use table::Table;
 use window::span::Spans;
 
 // The store that stands after a line, and the text to print, which is empty for an empty line.
@@ -37,25 +38,27 @@ pub fn answer(heap: Global, pile: Option<Pile>, line: &[u8]) -> Result<Turn, All
 pub fn perform(
     heap: Global,
     pile: Option<Pile>,
-    command: Command<'_>,
+    command: Result<Command<'_>, UnknownCommand>,
     line: &[u8],
 ) -> Result<Turn, AllocError>
     ensures answer { IfOk result (λ t. Performs (asked command.entry) pile line.now t) }
 {
-    match command {
-        Command::Nothing => Ok(Turn {
-            pile,
-            text: String::new(heap),
-        }),
-        Command::Store { base, rows } => store_turn(heap, base, rows),
-        Command::Window { spans } => window_turn(heap, pile, spans, line),
-        Command::Load { kind, number } => load_turn(heap, pile, kind, number, line),
-        Command::Put { kind, number, hex } => put_turn(heap, pile, kind, number, hex, line),
-        Command::Drop { kind, number } => drop_turn(heap, pile, kind, number, line),
-        Command::Power { writes } => power_turn(heap, pile, writes, line),
-        Command::Free => free_turn(heap, pile, line),
-        Command::Limit { kind } => limit_turn(heap, pile, kind, line),
-        Command::Unknown => not_understood(heap, pile, line),
+    match (command, pile) {
+        (Ok(Command::Nothing), pile) => Turn::new(heap, pile, ""),
+        (Ok(Command::Store { base, rows }), _) => store_turn(heap, base, rows),
+        (Ok(Command::Window { spans }), Some(pile)) => window_turn(heap, pile, spans, line),
+        (Ok(Command::Call(call)), Some(pile)) => call_turn(heap, pile, call, line),
+        (_, pile) => not_understood(heap, pile, line),
+    }
+}
+
+fn store_turn(heap: Global, base: BaseName, rows: u32) -> Result<Turn, AllocError>
+    ensures answer { IfOk result (λ t. StoreTurn base rows t.pile (string_bytes t.text)) }
+{
+    match make(heap, base, rows) {
+        Ok(pile) => Turn::new(heap, Some(pile), "store done\n"),
+        Err(MakeError::Bad) => Turn::new(heap, None, "store bad\n"),
+        Err(MakeError::NoMemory) => Turn::new(heap, None, "store memory\n"),
     }
 }
 
@@ -64,58 +67,16 @@ fn make(heap: Global, base: BaseName, rows: u32) -> Result<Pile, MakeError>
     ensures base { IfOk result (On base) }
 {
     match base {
-        BaseName::Table => Pile::new_table(heap, rows),
-        BaseName::Journal => Pile::new_journal(heap, rows),
+        BaseName::Table => Pile::new::<Table>(heap, rows),
+        BaseName::Journal => Pile::new::<Journal>(heap, rows),
     }
 }
 
-fn store_turn(heap: Global, base: BaseName, rows: u32) -> Result<Turn, AllocError>
-    ensures answer { IfOk result (λ t. StoreTurn base rows t.pile (string_bytes t.text)) }
-{
-    match make(heap, base, rows) {
-        Ok(pile) => {
-            let text = String::from_str(heap, "store done\n")?;
-            Ok(Turn {
-                pile: Some(pile),
-                text,
-            })
-        }
-        Err(MakeError::Bad) => {
-            let text = String::from_str(heap, "store bad\n")?;
-            Ok(Turn { pile: None, text })
-        }
-        Err(MakeError::NoMemory) => {
-            let text = String::from_str(heap, "store memory\n")?;
-            Ok(Turn { pile: None, text })
-        }
-    }
-}
-
-fn window_turn(
-    heap: Global,
-    pile: Option<Pile>,
-    spans: Spans,
-    line: &[u8],
-) -> Result<Turn, AllocError>
-    ensures answer { IfOk result (λ t. WindowTurn spans pile line.now t) }
-{
-    match pile {
-        Some(pile) => stack_turn(heap, pile, spans, line),
-        None => not_understood(heap, None, line),
-    }
-}
-
-fn stack_turn(heap: Global, pile: Pile, spans: Spans, line: &[u8]) -> Result<Turn, AllocError>
+fn window_turn(heap: Global, pile: Pile, spans: Spans, line: &[u8]) -> Result<Turn, AllocError>
     ensures answer { IfOk result (λ t. WindowOn spans pile line.now t) }
 {
     match pile.window(spans) {
-        Ok(pile) => {
-            let text = String::from_str(heap, "window done\n")?;
-            Ok(Turn {
-                pile: Some(pile),
-                text,
-            })
-        }
+        Ok(pile) => Turn::new(heap, Some(pile), "window done\n"),
         Err(refused) => refused_turn(heap, refused, line),
     }
 }
@@ -125,131 +86,69 @@ fn refused_turn(heap: Global, refused: Unstacked, line: &[u8]) -> Result<Turn, A
 {
     let Unstacked { pile, why } = refused;
     match why {
-        StackRefusal::Beyond => {
-            let text = String::from_str(heap, "window refused 13\n")?;
-            Ok(Turn {
-                pile: Some(pile),
-                text,
-            })
-        }
+        StackRefusal::Beyond => Turn::new(heap, Some(pile), "window refused 13\n"),
         StackRefusal::Full => not_understood(heap, Some(pile), line),
     }
 }
 
-fn load_turn(
-    heap: Global,
-    pile: Option<Pile>,
-    kind: Kind,
-    number: u32,
-    line: &[u8],
-) -> Result<Turn, AllocError>
-    ensures answer { IfOk result (λ t. LoadTurn kind number pile line.now t) }
+fn call_turn(heap: Global, mut pile: Pile, call: Call<'_>, line: &[u8]) -> Result<Turn, AllocError>
+    ensures answer { IfOk result (λ t. Performs (asked (Ok (ACall call.entry))) (Some pile) line.now t) }
 {
-    let Some(pile) = pile else {
-        return not_understood(heap, None, line);
-    };
-    let text = load_line(heap, &pile, kind, number)?;
-    Ok(Turn {
-        pile: Some(pile),
-        text,
-    })
-}
-
-fn put_turn(
-    heap: Global,
-    pile: Option<Pile>,
-    kind: Kind,
-    number: u32,
-    hex: &[u8],
-    line: &[u8],
-) -> Result<Turn, AllocError>
-    ensures answer { IfOk result (λ t. PutTurn kind number (hex_in hex.now) pile line.now t) }
-{
-    let Some(mut pile) = pile else {
-        return not_understood(heap, None, line);
-    };
-    match read_hex(heap, hex) {
-        Ok(row) => {
-            let text = put_line(heap, &mut pile, kind, number, row.as_slice())?;
-            Ok(Turn {
-                pile: Some(pile),
-                text,
-            })
-        }
-        Err(LineError::Malformed) => not_understood(heap, Some(pile), line),
-        Err(LineError::Memory) => Err(AllocError),
+    match call_text(heap, &mut pile, call)? {
+        Some(text) => Ok(Turn {
+            pile: Some(pile),
+            text,
+        }),
+        None => not_understood(heap, Some(pile), line),
     }
 }
 
-fn drop_turn(
+// What a call on a store prints, or none where its row is not written in hexadecimal.
+fn call_text(heap: Global, pile: &mut Pile, call: Call<'_>) -> Result<Option<String>, AllocError>
+    ensures answer { IfOk result (λ text. Tells (asked (Ok (ACall call.entry))) pile.old pile.new text) }
+{
+    match call {
+        Call::Load { kind, number } => Ok(Some(load_line(heap, pile, kind, number)?)),
+        Call::Put { kind, number, hex } => put_text(heap, pile, kind, number, hex),
+        Call::Drop { kind, number } => Ok(Some(drop_line(heap, pile, kind, number)?)),
+        Call::Power { writes } => {
+            pile.power(writes);
+            Ok(Some(String::from_str(heap, "power done 0\n")?))
+        }
+        Call::Free => Ok(Some(free_line(heap, pile)?)),
+        Call::Limit { kind } => Ok(Some(limit_line(heap, pile, kind)?)),
+    }
+}
+
+fn put_text(
     heap: Global,
-    pile: Option<Pile>,
+    pile: &mut Pile,
     kind: Kind,
     number: u32,
-    line: &[u8],
-) -> Result<Turn, AllocError>
-    ensures answer { IfOk result (λ t. DropTurn kind number pile line.now t) }
+    hex: &[u8],
+) -> Result<Option<String>, AllocError>
+    ensures answer { IfOk result (λ text. Tells (put kind number hex.now) pile.old pile.new text) }
 {
-    let Some(mut pile) = pile else {
-        return not_understood(heap, None, line);
+    let Some(row) = hex_bytes(heap, hex)? else {
+        return Ok(None);
     };
-    let text = drop_line(heap, &mut pile, kind, number)?;
-    Ok(Turn {
-        pile: Some(pile),
-        text,
-    })
+    Ok(Some(put_line(heap, pile, kind, number, row.as_slice())?))
 }
 
-fn power_turn(
-    heap: Global,
-    pile: Option<Pile>,
-    writes: u32,
-    line: &[u8],
-) -> Result<Turn, AllocError>
-    ensures answer { IfOk result (λ t. PowerTurn writes pile line.now t) }
-{
-    let Some(mut pile) = pile else {
-        return not_understood(heap, None, line);
-    };
-    pile.power(writes);
-    let text = String::from_str(heap, "power done 0\n")?;
-    Ok(Turn {
-        pile: Some(pile),
-        text,
-    })
-}
-
-fn free_turn(heap: Global, pile: Option<Pile>, line: &[u8]) -> Result<Turn, AllocError>
-    ensures answer { IfOk result (λ t. FreeTurn pile line.now t) }
-{
-    let Some(pile) = pile else {
-        return not_understood(heap, None, line);
-    };
-    let text = free_line(heap, &pile)?;
-    Ok(Turn {
-        pile: Some(pile),
-        text,
-    })
-}
-
-fn limit_turn(heap: Global, pile: Option<Pile>, kind: Kind, line: &[u8]) -> Result<Turn, AllocError>
-    ensures answer { IfOk result (λ t. LimitTurn kind pile line.now t) }
-{
-    let Some(pile) = pile else {
-        return not_understood(heap, None, line);
-    };
-    let text = limit_line(heap, &pile, kind)?;
-    Ok(Turn {
-        pile: Some(pile),
-        text,
-    })
+impl Turn {
+    fn new(heap: Global, pile: Option<Pile>, text: &str) -> Result<Turn, AllocError>
+        ensures answer { IfOk result (Prints pile text.now) }
+    {
+        let text = String::from_str(heap, text)?;
+        Ok(Turn { pile, text })
+    }
 }
 
 // `? ` and the line as escaped text; what stood before stands.
 fn not_understood(heap: Global, pile: Option<Pile>, line: &[u8]) -> Result<Turn, AllocError>
     ensures answer { IfOk result (λ t. NotUnderstood pile line.now t) }
 {
-    let escaped = escape(heap, line)?;
+    let escaped = Escaped(line);
     let text = format!(in heap; "? {escaped}\n")?;
     Ok(Turn { pile, text })
 }

@@ -4,7 +4,7 @@ ghost use Rattle.store.specs.Disk.{put_answer, put_after, drop_answer, drop_afte
 ghost use Rattle.script.specs.Texts.{row_word, loaded_text, load_text, put_text, drop_text, free_text, limit_text};
 
 use crate::texts::end_word;
-use lines::hex::hex_text;
+use lines::hex::Hex;
 use std::alloc::{AllocError, Global};
 use store::kind::Kind;
 use store::{ROW_BYTES, Store};
@@ -40,10 +40,10 @@ fn loaded_line(heap: Global, kind: Kind, number: u32, row: &[u8]) -> Result<Stri
 fn row_word(heap: Global, row: &[u8]) -> Result<String, AllocError>
     ensures answer { IfOk result (λ t. string_bytes t ≡ row_word row.now) }
 {
-    if row.len() == 0 {
+    if row.is_empty() {
         return Ok(String::new(heap));
     }
-    let hex = hex_text(heap, row)?;
+    let hex = Hex(row);
     format!(in heap; " {hex}")
 }
 

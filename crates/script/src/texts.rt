@@ -4,7 +4,7 @@ ghost use Rattle.script.specs.Texts.{end_word};
 
 use store::kind::Refusal;
 
-// How a put or a drop ended.
+// How a put or a drop ended. A word, since a Result can have no Display of its own here.
 pub fn end_word(end: Result<(), Refusal>) -> &'static str
     ensures answer { result.now ≡ end_word end }
 {
