@@ -404,6 +404,6 @@ lawful_by (first ∷ rest) c (Ok told) b p h =
     let short : leb (length (body_of c)) 540 ≡ true = let l = g.long in let m = there.3 in grind (arith, nat_tests) in
     simp (fields, short)
 
-pub reads-lawful : ReadsLawful
+pub reads_lawful : ReadsLawful
 unfolding reads
-reads-lawful bs c b h = lawful_by bs c (parts_in bs) b refl h
+reads_lawful bs c b h = lawful_by bs c (parts_in bs) b refl h
