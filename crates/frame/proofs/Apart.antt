@@ -1,5 +1,5 @@
 -- Telling a packet's parts apart.
-use Rattle.std.proofs.Common.{◌≡◌, ℕ, ◌+◌, ◌-◌, ◌%◌, ◌<◌, ◌≤◌, Bool, true, false, cond, ◌&&◌, eqb, leb, ◌≢◌, ◌⊎◌, List, [], ◌∷◌, ◌++◌, length, get_or, take, drop, Some, None, Ok, Option, Result, sym, refl, ap, ◌∙◌, subst, one-add, arith, length-append, length-drop}
+use Rattle.std.proofs.Common.{◌≡◌, ℕ, ◌+◌, ◌-◌, ◌%◌, ◌<◌, ◌≤◌, Bool, true, false, cond, ◌&&◌, eqb, leb, ◌≢◌, ◌⊎◌, List, [], ◌∷◌, ◌++◌, length, take, drop, Some, None, Ok, Option, Result, sym, refl, ap, ◌∙◌, subst, one-add, arith, length-append, length-drop}
 use Rattle.std.proofs.lemmas.List.{drop_at, take_rest}
 use Rattle.std.proofs.lemmas.Bool.Decides.{nat_tests}
 use Rattle.frame.specs.declared.field.BadField.{BadField}
@@ -8,7 +8,6 @@ use Rattle.frame.specs.declared.first_byte.PacketType.{PacketType}
 use Rattle.frame.specs.FirstByte.{type_in}
 use Rattle.frame.specs.Length.{length_in, length_bytes}
 use Rattle.frame.specs.Parts.{Told, bad_at, after_length, after_type, after_first, parts_in, packet_bytes, ToldApart, IsThere, PartsLaw}
-use Rattle.frame.proofs.Fronts.{front_one}
 use Rattle.frame.proofs.Lengths.{reads_back, shortest_some}
 
 module _ (t : PacketType) (flags : ℕ) (rest : List ℕ) where
@@ -31,12 +30,6 @@ module _ (t : PacketType) (flags : ℕ) (rest : List ℕ) where
         let yes : (leb n 540 && eqb (length rest) (k + n)) ≡ true = grind (arith, nat_tests) in
         let test : Ok (record { type_is = t; flags = flags; body = drop k rest; place = 1 + k }) ≡ after_length t flags rest (Some (n, k)) = simp yes in
         ap (λ b. Ok (record { type_is = t; flags = flags; body = b; place = 1 + k })) (take_rest rest k) ∙ test ∙ ap (after_length t flags rest) read
-
--- a whole packet by its first byte
-module _ (bytes : List ℕ) (some : 1 ≤ length bytes) where
-  pub from_first : after_first (type_in (get_or bytes 0 0)) (get_or bytes 0 0 % 16) (take (length bytes - 1) (drop 1 bytes)) ≡ parts_in bytes
-  unfolding parts_in
-  from_first = ap parts_in (sym (front_one bytes some))
 
 pub no_first : (bytes : List ℕ) → length bytes < 1 → bad_at FirstByte 0 ≡ parts_in bytes
 unfolding parts_in

@@ -5,17 +5,17 @@ ghost use Rattle.frame.specs.Field.{field_number};
 // What a reader judges, in the order of judging.
 #[derive(Clone, Copy, PartialEq, Eq, Debug)]
 pub enum Field {
-    FirstByte,
-    RemainingLength,
-    ProtocolName,
-    Flags,
-    ClientIdentifier,
-    TopicName,
-    PacketIdentifier,
-    TopicFilter,
-    QosOrCode,
-    Payload,
-    End,
+    FirstByte = 1,
+    RemainingLength = 2,
+    ProtocolName = 3,
+    Flags = 4,
+    ClientIdentifier = 5,
+    TopicName = 6,
+    PacketIdentifier = 7,
+    TopicFilter = 8,
+    QosOrCode = 9,
+    Payload = 10,
+    End = 11,
 }
 
 impl Field {
@@ -23,19 +23,7 @@ impl Field {
     pub fn number(self) -> u8
         ensures answer { result ≡ field_number self }
     {
-        match self {
-            Field::FirstByte => 1,
-            Field::RemainingLength => 2,
-            Field::ProtocolName => 3,
-            Field::Flags => 4,
-            Field::ClientIdentifier => 5,
-            Field::TopicName => 6,
-            Field::PacketIdentifier => 7,
-            Field::TopicFilter => 8,
-            Field::QosOrCode => 9,
-            Field::Payload => 10,
-            Field::End => 11,
-        }
+        self as u8
     }
 }
 

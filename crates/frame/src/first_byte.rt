@@ -1,24 +1,26 @@
 // The packet type that a first byte announces.
-ghost use Rattle.std.specs.Prelude.{◌≡◌};
-ghost use Rattle.frame.specs.FirstByte.{Decodes, type_number, numbered, number_of, type_in, name_of};
+ghost use Rattle.std.specs.Prelude.{◌≡◌, Some};
+ghost use Rattle.frame.specs.FirstByte.{Decodes, type_number, number_of, type_in, name_of};
+
+use std::fmt;
 
 // The fourteen packet types of MQTT 3.1.1.
 #[derive(Clone, Copy, PartialEq, Eq, Debug)]
 pub enum PacketType {
-    Connect,
-    ConnAck,
-    Publish,
-    PubAck,
-    PubRec,
-    PubRel,
-    PubComp,
-    Subscribe,
-    SubAck,
-    Unsubscribe,
-    UnsubAck,
-    PingReq,
-    PingResp,
-    Disconnect,
+    Connect = 1,
+    ConnAck = 2,
+    Publish = 3,
+    PubAck = 4,
+    PubRec = 5,
+    PubRel = 6,
+    PubComp = 7,
+    Subscribe = 8,
+    SubAck = 9,
+    Unsubscribe = 10,
+    UnsubAck = 11,
+    PingReq = 12,
+    PingResp = 13,
+    Disconnect = 14,
 }
 
 // A number that no packet type has.
@@ -75,53 +77,15 @@ pub fn type_number(first: u8) -> u8
 pub fn packet_type(first: u8) -> Option<PacketType>
     ensures answer { result ≡ type_in first }
 {
-    PacketType::from_number(type_number(first))
+    PacketType::try_from(type_number(first)).ok()
 }
 
 impl PacketType {
-    // The type with this number, or none where there is no such type.
-    pub fn from_number(number: u8) -> Option<PacketType>
-        ensures answer { result ≡ numbered number }
-    {
-        match number {
-            1 => Some(PacketType::Connect),
-            2 => Some(PacketType::ConnAck),
-            3 => Some(PacketType::Publish),
-            4 => Some(PacketType::PubAck),
-            5 => Some(PacketType::PubRec),
-            6 => Some(PacketType::PubRel),
-            7 => Some(PacketType::PubComp),
-            8 => Some(PacketType::Subscribe),
-            9 => Some(PacketType::SubAck),
-            10 => Some(PacketType::Unsubscribe),
-            11 => Some(PacketType::UnsubAck),
-            12 => Some(PacketType::PingReq),
-            13 => Some(PacketType::PingResp),
-            14 => Some(PacketType::Disconnect),
-            _ => None,
-        }
-    }
-
     // The number in the upper four bits of the type's first bytes, 1 to 14.
     pub fn number(self) -> u8
         ensures answer { result ≡ number_of self }
     {
-        match self {
-            PacketType::Connect => 1,
-            PacketType::ConnAck => 2,
-            PacketType::Publish => 3,
-            PacketType::PubAck => 4,
-            PacketType::PubRec => 5,
-            PacketType::PubRel => 6,
-            PacketType::PubComp => 7,
-            PacketType::Subscribe => 8,
-            PacketType::SubAck => 9,
-            PacketType::Unsubscribe => 10,
-            PacketType::UnsubAck => 11,
-            PacketType::PingReq => 12,
-            PacketType::PingResp => 13,
-            PacketType::Disconnect => 14,
-        }
+        self as u8
     }
 
     // The type's name as the standard writes it.
@@ -144,5 +108,13 @@ impl PacketType {
             PacketType::PingResp => "PINGRESP",
             PacketType::Disconnect => "DISCONNECT",
         }
+    }
+}
+
+impl fmt::Display for PacketType {
+    ghost output = { λ t. Some (name_of t) };
+
+    fn fmt<W: fmt::Write>(&self, f: &mut fmt::Formatter<W>) -> fmt::Result {
+        f.write_str(self.name())
     }
 }

@@ -3,7 +3,7 @@ ghost use Rattle.std.specs.Prelude.{◌≡◌, ◌≤◌, length as len};
 
 pub mod ops;
 
-// A length as it is written, in one to four bytes.
+// A length as it is written, in one to four bytes. A fixed array and a count: nothing here allocates.
 #[derive(Clone, Copy)]
 pub struct LengthBytes {
     bytes: [u8; 4],

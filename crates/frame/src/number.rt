@@ -6,10 +6,8 @@ ghost use Rattle.frame.specs.Number.{number_in, number_bytes, number_and_rest, N
 pub fn read_number(bytes: &[u8]) -> Option<(u16, &[u8])>
     ensures answer { number_and_rest result ≡ number_in bytes.now }
 {
-    match bytes {
-        [high, low, rest @ ..] => Some((u16::from_be_bytes([*high, *low]), rest)),
-        _ => None,
-    }
+    let (number, rest) = bytes.split_first_chunk()?;
+    Some((u16::from_be_bytes(*number), rest))
 }
 
 // The two bytes of a number.

@@ -18,25 +18,25 @@ pub struct Parts<'a> {
     pub place: usize,
 }
 
+const BAD_FIRST_BYTE: BadField = BadField {
+    field: Field::FirstByte,
+    place: 0,
+};
+
+const BAD_LENGTH: BadField = BadField {
+    field: Field::RemainingLength,
+    place: 1,
+};
+
 // Tells a whole packet's parts, or the bad field: an illegal first byte, or a remaining length that is not
 // readable, above 540 or unlike the bytes that follow.
 pub fn split_packet(bytes: &[u8]) -> Result<Parts<'_>, BadField>
     ensures answer { told result ≡ parts_in bytes.now }
     ensures bound { Within result (len bytes.now) }
 {
-    match bytes {
-        [first, rest @ ..] => match packet_type(*first) {
-            Some(packet_type) => split_rest(packet_type, *first % 16, rest),
-            None => Err(BadField {
-                field: Field::FirstByte,
-                place: 0,
-            }),
-        },
-        _ => Err(BadField {
-            field: Field::FirstByte,
-            place: 0,
-        }),
-    }
+    let (first, rest) = bytes.split_first().ok_or(BAD_FIRST_BYTE)?;
+    let packet_type = packet_type(*first).ok_or(BAD_FIRST_BYTE)?;
+    split_rest(packet_type, *first % 16, rest)
 }
 
 // The parts behind the first byte.
@@ -44,18 +44,10 @@ fn split_rest(packet_type: PacketType, flags: u8, rest: &[u8]) -> Result<Parts<'
     ensures answer { told result ≡ after_type packet_type flags rest.now }
     ensures bound { Within result (len rest.now + 1) }
 {
-    let Some((number, count)) = read_length(rest) else {
-        return Err(BadField {
-            field: Field::RemainingLength,
-            place: 1,
-        });
-    };
+    let (number, count) = read_length(rest).ok_or(BAD_LENGTH)?;
     let number = number as usize;
     if number > BODY_BYTES || rest.len() != count + number {
-        return Err(BadField {
-            field: Field::RemainingLength,
-            place: 1,
-        });
+        return Err(BAD_LENGTH);
     }
     Ok(Parts {
         packet_type,

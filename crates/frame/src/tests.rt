@@ -1,5 +1,5 @@
 // Examples of first bytes, lengths and parts of packets.
-use crate::first_byte::type_number;
+use crate::first_byte::{PacketType, type_number};
 use crate::length::ops::{read_length, write_length};
 use crate::parts::split_packet;
 
@@ -55,5 +55,13 @@ fn bad_parts(rt: HostRuntime) {
             Ok(_) => assert!(rt; false),
             Err(bad) => assert!(rt; bad.field.number() == number),
         }
+    }
+}
+
+#[test]
+fn names(rt: HostRuntime) {
+    match PacketType::PubRel.to_string(rt.alloc()) {
+        Ok(name) => assert!(rt; name.as_str() == "PUBREL"),
+        Err(_) => assert!(rt; false),
     }
 }

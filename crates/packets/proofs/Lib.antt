@@ -1,2 +1,3 @@
-pub mod Fronts
+pub mod Counting
+pub mod Passing
 pub mod Steps

@@ -1,5 +1,5 @@
 -- The fields that packets have in common. Every step takes the bytes not yet read and the place of the first of them.
-use Rattle.std.specs.Prelude.{ℕ, ◌+◌, Bool, cond, List, [], ◌∷◌, length, take, drop, Some, None, Ok, Err, Option, Result, ◌==◌, nat_le}
+use Rattle.std.specs.Prelude.{◌≡◌, ℕ, ◌+◌, Bool, cond, List, [], ◌∷◌, length, take, drop, Some, None, Ok, Err, Option, Result, MatchResult, ◌==◌, nat_le}
 use Rattle.std.specs.Borrow.{Bor}
 use Rattle.frame.specs.declared.field.Field.{Field}
 use Rattle.frame.specs.declared.field.Field.TheVariants.{PacketIdentifier, End}
@@ -73,12 +73,17 @@ text_in f test bs at = judged f test bs at (length_prefixed bs)
 abbrev pub past : List ℕ → ℕ → ℕ
 past text at = at + 2 + length text
 
--- ---- answers of the code with the bytes in place of the borrowed parts
+-- ---- answers of the code
 
-abbrev pub id_and_rest : Result (ℕ × Bor (List ℕ)) ReadError → Result (ℕ × List ℕ) ReadError
-id_and_rest (Ok p) = Ok (p.0, p.1.now)
-id_and_rest (Err e) = Err e
+-- a step takes what stands first and leaves what follows, or bytes are missing
+abbrev pub Takes : {A : Type 0} → Option (A × List ℕ) → List ℕ → ℕ → List ℕ → Result A ReadError → Type 0
+Takes first bs at rest r = MatchResult r (λ x. first ≡ Some (x, rest)) (λ e. (first ≡ None) × (e ≡ bad_at End (at + length bs)))
 
-abbrev pub prefix_and_rest : Option (Bor (List ℕ) × Bor (List ℕ)) → Option (List ℕ × List ℕ)
-prefix_and_rest None = None
-prefix_and_rest (Some p) = Some (p.0.now, p.1.now)
+-- a step finds what it ought to and leaves what follows, or stops as it ought to
+abbrev pub Finds : {A : Type 0} → Result (A × List ℕ) ReadError → List ℕ → Result A ReadError → Type 0
+Finds found rest r = MatchResult r (λ x. found ≡ Ok (x, rest)) (λ e. found ≡ Err e)
+
+-- an answer with the bytes in place of the borrowed part
+abbrev pub bytes_of : Result (Bor (List ℕ)) ReadError → Result (List ℕ) ReadError
+bytes_of (Ok b) = Ok b.now
+bytes_of (Err e) = Err e

@@ -1,6 +1,5 @@
 -- The filters of a SUBSCRIBE, each with a QoS byte, and of an UNSUBSCRIBE, without.
 use Rattle.std.specs.Prelude.{ℕ, zero, suc, ◌+◌, ◌^◌, Bool, true, false, cond, List, [], ◌∷◌, length, Some, None, Ok, Err, Option, Result, nat_lt}
-use Rattle.std.specs.Borrow.{Bor}
 use Rattle.frame.specs.declared.field.Field.TheVariants.{TopicFilter, QosOrCode, End}
 use Rattle.topics.specs.declared.qos.Qos.{Qos}
 use Rattle.topics.specs.Qos.{qos_of}
@@ -90,9 +89,10 @@ abbrev pub maybe_entry : Option Filter → Option Entry
 maybe_entry None = None
 maybe_entry (Some f) = Some (entry_of f)
 
-abbrev pub found : Result (Filter × Bor (List ℕ) × ℕ) ReadError → Result Found ReadError
-found (Ok p) = Ok (record { entry = entry_of p.0; rest = p.1.now; next = p.2 })
-found (Err e) = Err e
+-- a filter, the bytes that follow it, and their place
+abbrev pub found : List ℕ → ℕ → Result Filter ReadError → Result Found ReadError
+found rest next (Ok f) = Ok (record { entry = entry_of f; rest = rest; next = next })
+found rest next (Err e) = Err e
 
 -- a number of filters stands for the first so many of the part
 abbrev pub counted : Bool → List ℕ → ℕ → Result ℕ ReadError → Result (List Entry) ReadError

@@ -1,9 +1,8 @@
 // Reading filters, and the question for one of them.
-ghost use Rattle.std.specs.Prelude.{◌≡◌, ◌+◌, ◌^◌, ◌<◌, ◌≤◌, true, length, IfOk};
-ghost use Rattle.packets.specs.Fields.{past};
-ghost use Rattle.packets.specs.Filters.{after_filter, counted, entries_of, filter_in, filters_in, first_filters, found, maybe_entry, nth, some_filters, told};
+ghost use Rattle.std.specs.Prelude.{◌≡◌};
+ghost use Rattle.packets.specs.Filters.{counted, entries_of, filter_in, filters_in, found, maybe_entry, nth, some_filters, told};
 
-use crate::fields::{bad, length_prefixed, missing};
+use crate::cursor::{Cursor, bad};
 use crate::packet::{Filter, Filters, MAX_FILTERS, ReadError};
 use frame::field::Field;
 use topics::names::is_topic_filter;
@@ -14,127 +13,75 @@ impl<'a> Filters<'a> {
     pub fn get(self, index: usize) -> Option<Filter<'a>>
         ensures answer { maybe_entry result ≡ nth index (entries_of self.entry) }
     {
-        if self.place > usize::MAX - self.part.len() {
+        if index >= self.count {
             return None;
         }
-        find(self.with_qos, self.part, self.place, self.count, index)
-    }
-}
-
-// The filter with this index among the first `count` of the part.
-fn find(with_qos: bool, part: &[u8], place: usize, count: usize, index: usize) -> Option<Filter<'_>>
-    requires { place + length part.now < 2 ^ 64 }
-    ensures answer { maybe_entry result ≡ nth index (first_filters with_qos count part.now place) }
-{
-    if count == 0 {
-        return None;
-    }
-    match read_filter(with_qos, part, place) {
-        Ok((filter, rest, next)) => {
-            if index == 0 {
-                return Some(filter);
-            }
-            find(with_qos, rest, next, count - 1, index - 1)
+        let mut cursor = Cursor::new(self.part, self.place)?;
+        for _ in 0..index {
+            read_filter(self.with_qos, &mut cursor).ok()?;
         }
-        Err(_) => None,
+        read_filter(self.with_qos, &mut cursor).ok()
     }
 }
 
-// One filter, what follows it, and the place of that.
-fn read_filter(
-    with_qos: bool,
-    bytes: &[u8],
-    at: usize,
-) -> Result<(Filter<'_>, &[u8], usize), ReadError>
-    requires { at + length bytes.now < 2 ^ 64 }
-    ensures answer { found result ≡ filter_in with_qos bytes.now at }
-    ensures bound { IfOk result (λ p. p.2 + length p.1.now ≡ at + length bytes.now) }
+// One filter: with a QoS byte in a SUBSCRIBE, without in an UNSUBSCRIBE.
+fn read_filter<'a>(with_qos: bool, cursor: &mut Cursor<'a>) -> Result<Filter<'a>, ReadError>
+    ensures answer { found cursor.new.bytes.now cursor.new.at result ≡ filter_in with_qos cursor.old.bytes.now cursor.old.at }
 {
-    let Some((text, rest)) = length_prefixed(bytes) else {
-        return Err(missing(bytes, at));
+    let place = cursor.at;
+    let bytes = cursor.text()?;
+    if !is_topic_filter(bytes) {
+        return Err(bad(Field::TopicFilter, place));
+    }
+    if !with_qos {
+        return Ok(Filter {
+            bytes,
+            place,
+            qos: None,
+        });
+    }
+    let qos_at = cursor.at;
+    let Ok(qos) = Qos::try_from(cursor.byte()?) else {
+        return Err(bad(Field::QosOrCode, qos_at));
     };
-    if !is_topic_filter(text) {
-        return Err(bad(Field::TopicFilter, at));
-    }
-    if with_qos {
-        return read_qos(text, at, rest, at + 2 + text.len());
-    }
-    let filter = Filter {
-        bytes: text,
-        place: at,
-        qos: None,
-    };
-    Ok((filter, rest, at + 2 + text.len()))
-}
-
-// The QoS byte of a filter, which stands at `at`.
-fn read_qos<'a>(
-    text: &'a [u8],
-    place: usize,
-    bytes: &'a [u8],
-    at: usize,
-) -> Result<(Filter<'a>, &'a [u8], usize), ReadError>
-    requires fits { at + length bytes.now < 2 ^ 64 }
-    requires behind { at ≡ past text.now place }
-    ensures answer { found result ≡ after_filter true text.now place bytes.now }
-    ensures bound { IfOk result (λ p. p.2 + length p.1.now ≡ at + length bytes.now) }
-{
-    match bytes {
-        [number, rest @ ..] => match Qos::from_number(*number) {
-            Some(qos) => {
-                let filter = Filter {
-                    bytes: text,
-                    place,
-                    qos: Some(qos),
-                };
-                Ok((filter, rest, at + 1))
-            }
-            None => Err(bad(Field::QosOrCode, at)),
-        },
-        [] => Err(missing(bytes, at)),
-    }
+    Ok(Filter {
+        bytes,
+        place,
+        qos: Some(qos),
+    })
 }
 
 // One filter to eight, up to the packet's end.
-pub(crate) fn read_filters(
+pub(crate) fn read_filters<'a>(
     with_qos: bool,
-    bytes: &[u8],
-    at: usize,
-) -> Result<Filters<'_>, ReadError>
-    requires { at + length bytes.now < 2 ^ 64 }
-    ensures answer { told result ≡ some_filters with_qos bytes.now at }
+    cursor: &mut Cursor<'a>,
+) -> Result<Filters<'a>, ReadError>
+    ensures answer { told result ≡ some_filters with_qos cursor.old.bytes.now cursor.old.at }
 {
-    if bytes.is_empty() {
-        return Err(missing(bytes, at));
+    if cursor.bytes.is_empty() {
+        return Err(cursor.missing());
     }
-    match count_filters(with_qos, bytes, at, MAX_FILTERS) {
-        Ok(count) => Ok(Filters {
-            part: bytes,
-            place: at,
-            count,
-            with_qos,
-        }),
-        Err(e) => Err(e),
-    }
+    let part = cursor.bytes;
+    let place = cursor.at;
+    let count = count_filters(with_qos, cursor)?;
+    Ok(Filters {
+        part,
+        place,
+        count,
+        with_qos,
+    })
 }
 
-// How many filters there are up to the packet's end, at most `left`.
-fn count_filters(with_qos: bool, bytes: &[u8], at: usize, left: usize) -> Result<usize, ReadError>
-    requires { at + length bytes.now < 2 ^ 64 }
-    ensures answer { counted with_qos bytes.now at result ≡ filters_in with_qos left bytes.now at }
-    ensures bound { IfOk result (λ n. n ≤ left) }
+// How many filters there are up to the packet's end, at most eight.
+fn count_filters(with_qos: bool, cursor: &mut Cursor<'_>) -> Result<usize, ReadError>
+    ensures answer { counted with_qos cursor.old.bytes.now cursor.old.at result ≡ filters_in with_qos 8 cursor.old.bytes.now cursor.old.at }
 {
-    if bytes.is_empty() {
-        return Ok(0);
+    for count in 0..MAX_FILTERS {
+        if cursor.bytes.is_empty() {
+            return Ok(count);
+        }
+        read_filter(with_qos, cursor)?;
     }
-    if left == 0 {
-        return Err(bad(Field::End, at));
-    }
-    match read_filter(with_qos, bytes, at) {
-        Ok((_, rest, next)) => match count_filters(with_qos, rest, next, left - 1) {
-            Ok(count) => Ok(count + 1),
-            Err(e) => Err(e),
-        },
-        Err(e) => Err(e),
-    }
+    cursor.end()?;
+    Ok(MAX_FILTERS)
 }

@@ -1,4 +1,7 @@
 // The fourteen packets, as they are read and written.
+ghost use Rattle.std.specs.Prelude.{◌≡◌};
+ghost use Rattle.packets.specs.declared.packet.ReadError.TheVariants.{Bad};
+
 use frame::field::BadField;
 use topics::qos::Qos;
 
@@ -90,4 +93,12 @@ pub struct Filter<'a> {
 pub enum ReadError {
     Level,
     Bad(BadField),
+}
+
+impl From<BadField> for ReadError {
+    ghost from_gives = { λ bad e. e ≡ Bad bad };
+
+    fn from(bad: BadField) -> ReadError {
+        ReadError::Bad(bad)
+    }
 }

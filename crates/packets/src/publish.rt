@@ -1,95 +1,49 @@
 // PUBLISH.
-ghost use Rattle.std.specs.Prelude.{◌≡◌, ◌+◌, ◌^◌, ◌<◌, length};
+ghost use Rattle.std.specs.Prelude.{◌≡◌, ℕ, Bool, List};
+ghost use Rattle.packets.specs.Fields.{onward};
 ghost use Rattle.packets.specs.Packet.{outcome};
-ghost use Rattle.packets.specs.Reads.{after_topic, numbered_in, payload_in, publish_in, topic_in};
+ghost use Rattle.packets.specs.Reads.{after_topic, payload_in, publish_in};
 
-use crate::fields::{bad, length_prefixed, missing, read_identifier};
+use crate::cursor::{Cursor, bad};
 use crate::packet::{MAX_PAYLOAD, Packet, ReadError};
 use frame::field::Field;
 use topics::names::is_topic_name;
 use topics::qos::Qos;
 
 // A PUBLISH from its topic on, with the flags of its first byte.
-pub(crate) fn read_publish(flags: u8, bytes: &[u8], at: usize) -> Result<Packet<'_>, ReadError>
-    requires { at + length bytes.now < 2 ^ 64 }
-    ensures answer { outcome result ≡ publish_in flags bytes.now at }
+pub(crate) fn read_publish<'a>(flags: u8, cursor: &mut Cursor<'a>) -> Result<Packet<'a>, ReadError>
+    ensures answer { outcome result ≡ publish_in flags cursor.old.bytes.now cursor.old.at }
 {
-    match Qos::from_number(flags / 2 % 4) {
-        Some(qos) => read_topic(flags >= 8, qos, bytes, at),
-        None => Err(bad(Field::FirstByte, 0)),
-    }
-}
-
-fn read_topic(dup: bool, qos: Qos, bytes: &[u8], at: usize) -> Result<Packet<'_>, ReadError>
-    requires { at + length bytes.now < 2 ^ 64 }
-    ensures answer { outcome result ≡ topic_in dup qos bytes.now at }
-{
-    let Some((topic, rest)) = length_prefixed(bytes) else {
-        return Err(missing(bytes, at));
+    let Ok(qos) = Qos::try_from(flags / 2 % 4) else {
+        return Err(bad(Field::FirstByte, 0));
     };
+    let topic_at = cursor.at;
+    let topic = cursor.text()?;
     if !is_topic_name(topic) {
-        return Err(bad(Field::TopicName, at));
+        return Err(bad(Field::TopicName, topic_at));
     }
-    after_topic(dup, qos, topic, at, rest, at + 2 + topic.len())
-}
-
-// From behind the topic on: an identifier unless QoS is 0, then the payload.
-fn after_topic<'a>(
-    dup: bool,
-    qos: Qos,
-    topic: &'a [u8],
-    topic_at: usize,
-    bytes: &'a [u8],
-    at: usize,
-) -> Result<Packet<'a>, ReadError>
-    requires { at + length bytes.now < 2 ^ 64 }
-    ensures answer { outcome result ≡ after_topic dup qos topic.now topic_at bytes.now at }
-{
-    match qos {
-        Qos::AtMostOnce => with_payload(dup, qos, topic, topic_at, None, bytes, at),
-        Qos::AtLeastOnce => read_numbered(dup, qos, topic, topic_at, bytes, at),
-        Qos::ExactlyOnce => read_numbered(dup, qos, topic, topic_at, bytes, at),
-    }
-}
-
-fn read_numbered<'a>(
-    dup: bool,
-    qos: Qos,
-    topic: &'a [u8],
-    topic_at: usize,
-    bytes: &'a [u8],
-    at: usize,
-) -> Result<Packet<'a>, ReadError>
-    requires { at + length bytes.now < 2 ^ 64 }
-    ensures answer { outcome result ≡ numbered_in dup qos topic.now topic_at bytes.now at }
-{
-    match read_identifier(bytes, at) {
-        Ok((id, rest)) => with_payload(dup, qos, topic, topic_at, Some(id), rest, at + 2),
-        Err(e) => Err(e),
-    }
-}
-
-fn with_payload<'a>(
-    dup: bool,
-    qos: Qos,
-    topic: &'a [u8],
-    topic_at: usize,
-    id: Option<u16>,
-    payload: &'a [u8],
-    at: usize,
-) -> Result<Packet<'a>, ReadError>
-    ensures answer { outcome result ≡ payload_in dup qos topic.now topic_at id payload.now at }
-{
-    if payload.len() > MAX_PAYLOAD {
-        return Err(bad(Field::Payload, at));
+    let id = flow_identifier(qos, cursor)?;
+    if cursor.bytes.len() > MAX_PAYLOAD {
+        return Err(bad(Field::Payload, cursor.at));
     }
     Ok(Packet::Publish {
-        dup,
+        dup: flags >= 8,
         qos,
         topic,
         topic_at,
         id,
-        payload,
-        payload_at: at,
+        payload: cursor.bytes,
+        payload_at: cursor.at,
     })
+}
+
+// The packet identifier, unless QoS is 0.
+fn flow_identifier(qos: Qos, cursor: &mut Cursor<'_>) -> Result<Option<u16>, ReadError>
+    ensures answer { (dup : Bool) (topic : List ℕ) (place : ℕ) → onward (λ id. payload_in dup qos topic place id cursor.new.bytes.now cursor.new.at) result
+        ≡ after_topic dup qos topic place cursor.old.bytes.now cursor.old.at }
+{
+    match qos {
+        Qos::AtMostOnce => Ok(None),
+        Qos::AtLeastOnce | Qos::ExactlyOnce => Ok(Some(cursor.identifier()?)),
+    }
 }

@@ -1,10 +1,10 @@
 // The reader of whole packets.
-ghost use Rattle.std.specs.Prelude.{◌≡◌, ◌+◌, ◌^◌, ◌<◌, length};
+ghost use Rattle.std.specs.Prelude.{◌≡◌};
 ghost use Rattle.packets.specs.Packet.{outcome};
 ghost use Rattle.packets.specs.Reads.{body_in, reads};
 
 use crate::connect::{read_connack, read_connect};
-use crate::fields::{ended, only_identifier};
+use crate::cursor::Cursor;
 use crate::packet::{Packet, ReadError};
 use crate::publish::read_publish;
 use crate::subscribe::{read_suback, read_subscribe};
@@ -15,46 +15,46 @@ use frame::parts::split_packet;
 pub fn read(bytes: &[u8]) -> Result<Packet<'_>, ReadError>
     ensures answer { outcome result ≡ reads bytes.now }
 {
-    match split_packet(bytes) {
-        Ok(parts) => read_body(parts.packet_type, parts.flags, parts.body, parts.place),
-        Err(e) => Err(ReadError::Bad(e)),
-    }
+    let parts = split_packet(bytes)?;
+    let mut cursor = Cursor {
+        bytes: parts.body,
+        at: parts.place,
+    };
+    read_body(parts.packet_type, parts.flags, &mut cursor)
 }
 
 // The body of a packet of this type, with the flags of its first byte.
-fn read_body(
+fn read_body<'a>(
     packet_type: PacketType,
     flags: u8,
-    body: &[u8],
-    at: usize,
-) -> Result<Packet<'_>, ReadError>
-    requires { at + length body.now < 2 ^ 64 }
-    ensures answer { outcome result ≡ body_in packet_type flags body.now at }
+    cursor: &mut Cursor<'a>,
+) -> Result<Packet<'a>, ReadError>
+    ensures answer { outcome result ≡ body_in packet_type flags cursor.old.bytes.now cursor.old.at }
 {
     match packet_type {
-        PacketType::Connect => read_connect(body, at),
-        PacketType::ConnAck => read_connack(body, at),
-        PacketType::Publish => read_publish(flags, body, at),
+        PacketType::Connect => read_connect(cursor),
+        PacketType::ConnAck => read_connack(cursor),
+        PacketType::Publish => read_publish(flags, cursor),
         PacketType::PubAck => Ok(Packet::PubAck {
-            id: only_identifier(body, at)?,
+            id: cursor.only_identifier()?,
         }),
         PacketType::PubRec => Ok(Packet::PubRec {
-            id: only_identifier(body, at)?,
+            id: cursor.only_identifier()?,
         }),
         PacketType::PubRel => Ok(Packet::PubRel {
-            id: only_identifier(body, at)?,
+            id: cursor.only_identifier()?,
         }),
         PacketType::PubComp => Ok(Packet::PubComp {
-            id: only_identifier(body, at)?,
+            id: cursor.only_identifier()?,
         }),
-        PacketType::Subscribe => read_subscribe(true, body, at),
-        PacketType::SubAck => read_suback(body, at),
-        PacketType::Unsubscribe => read_subscribe(false, body, at),
+        PacketType::Subscribe => read_subscribe(true, cursor),
+        PacketType::SubAck => read_suback(cursor),
+        PacketType::Unsubscribe => read_subscribe(false, cursor),
         PacketType::UnsubAck => Ok(Packet::UnsubAck {
-            id: only_identifier(body, at)?,
+            id: cursor.only_identifier()?,
         }),
-        PacketType::PingReq => ended(Packet::PingReq, body, at),
-        PacketType::PingResp => ended(Packet::PingResp, body, at),
-        PacketType::Disconnect => ended(Packet::Disconnect, body, at),
+        PacketType::PingReq => cursor.end().and(Ok(Packet::PingReq)),
+        PacketType::PingResp => cursor.end().and(Ok(Packet::PingResp)),
+        PacketType::Disconnect => cursor.end().and(Ok(Packet::Disconnect)),
     }
 }

@@ -32,29 +32,14 @@ pub fn write_length(number: u32) -> Option<LengthBytes>
     let b = (number / 128 % 128) as u8;
     let c = (number / 128 / 128 % 128) as u8;
     let d = (number / 128 / 128 / 128 % 128) as u8;
-    if number < 128 {
-        Some(LengthBytes {
-            bytes: [a, 0, 0, 0],
-            count: 1,
-        })
-    } else if number < 16384 {
-        Some(LengthBytes {
-            bytes: [128 + a, b, 0, 0],
-            count: 2,
-        })
-    } else if number < 2097152 {
-        Some(LengthBytes {
-            bytes: [128 + a, 128 + b, c, 0],
-            count: 3,
-        })
-    } else if number < 268435456 {
-        Some(LengthBytes {
-            bytes: [128 + a, 128 + b, 128 + c, d],
-            count: 4,
-        })
-    } else {
-        None
-    }
+    let (bytes, count) = match number {
+        0..=127 => ([a, 0, 0, 0], 1),
+        128..=16383 => ([128 + a, b, 0, 0], 2),
+        16384..=2097151 => ([128 + a, 128 + b, c, 0], 3),
+        2097152..=268435455 => ([128 + a, 128 + b, 128 + c, d], 4),
+        _ => return None,
+    };
+    Some(LengthBytes { bytes, count })
 }
 
 // What is written of any number below 2^28, whatever follows, is read back as that number with all
@@ -68,7 +53,7 @@ fn low(byte: u8) -> u32
     ensures answer { result ≡ byte % 128 }
     ensures bound { result < 128 }
 {
-    (byte % 128) as u32
+    u32::from(byte % 128)
 }
 
 impl LengthBytes {

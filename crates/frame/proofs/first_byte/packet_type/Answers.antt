@@ -1,10 +1,8 @@
-use Rattle.std.proofs.Common.{ap, ◌∙◌}
-use Rattle.frame.specs.FirstByte.{type_number, type_in, numbered}
-use Rattle.frame.proofs.Types.{number_back}
+use Rattle.std.proofs.Common.{◌∙◌}
+use Rattle.frame.specs.FirstByte.{type_number, type_in}
+use Rattle.frame.proofs.Types.{decoded}
 use Rattle.frame.proofs.first_byte.packet_type.Goals as goal
 
 pub returns : goal.returns
 unfolding type_number
-returns c = record {
-  answer = c.from_number.ensures.answer ∙ ap numbered c.type_number.ensures.answer ∙ number_back (type_in c.args.first);
-}
+returns c = let h = decoded (type_in c.args.first) _ _ c.type_number.ensures.answer c.try_from.ensures in record { answer = c.ok.ensures.value ∙ h }

@@ -1,29 +1,33 @@
-use Rattle.std.proofs.Common.{ℕ, List}
-use Rattle.frame.specs.declared.field.Field.TheVariants.{ClientIdentifier}
-use Rattle.topics.specs.Text.{is_text}
-use Rattle.packets.specs.Fields.{ended, past}
-use Rattle.packets.specs.Packet.{connect}
+use Rattle.std.proofs.lemmas.Result.{err_from_is_err_and}
+use Rattle.packets.specs.Fields.{text_in}
 use Rattle.packets.specs.Reads.{client_in}
-use Rattle.packets.proofs.Steps.{text_missing, text_bad, text_good}
+use Rattle.packets.proofs.Steps.{ended_ok, ended_err}
 use Rattle.packets.proofs.connect.read_client.Goals as goal
 
-pub returns-in_default : goal.returns-in_default
-unfolding client_in
-returns-in_default c =
-    record { answer = text_missing (λ (p : List ℕ × List ℕ). ended p.1 (past p.0 c.args.at) (connect p.0 c.args.at)) ClientIdentifier is_text c.args.bytes.now c.args.at c.in_default.ensures.answer c.missing.ensures.answer }
+pub returns-in_err-client : goal.returns-in_err-client
+unfolding client_in text_in
+returns-in_err-client c =
+    let p = err_from_is_err_and c.from_residual.result c.from_residual.ensures.1 in
+    let e = c.in_err-client.ensures.answer in
+    record { answer = rw (p.1, p.2, e.0, e.1) }
 
 pub returns-then-not-is_text : goal.returns-then-not-is_text
-unfolding client_in
-returns-then-not-is_text c =
+unfolding client_in text_in
+returns-then-not-is_text c = record { answer = rw (c.in_ok-client.ensures.answer, ← c.if-not-is_text.ensures.answer, c.bad.ensures.answer) }
+
+pub returns-in_err-end : goal.returns-in_err-end
+unfolding client_in text_in
+returns-in_err-end c =
+    let p = err_from_is_err_and c.from_residual-in_err-end.result c.from_residual-in_err-end.ensures.1 in
     record {
-      answer = text_bad (λ (p : List ℕ × List ℕ). ended p.1 (past p.0 c.args.at) (connect p.0 c.args.at)) ClientIdentifier is_text c.args.bytes.now c.args.at c.in-Some.client.now c.in-Some.rest.now c.in-Some.ensures.answer
-          c.if-not-is_text.ensures.answer c.bad.ensures.answer;
+      answer = rw (p.1, p.2, c.in_ok-client.ensures.answer, ← c.if-not-is_text.ensures.answer)
+          (ended_err c.text.new.self.bytes.now _ _ _ c.in_ok-client.ensures.place c.in_err-end.ensures.answer);
     }
 
 pub returns : goal.returns
-unfolding client_in
+unfolding client_in text_in
 returns c =
     record {
-      answer = text_good (λ (p : List ℕ × List ℕ). ended p.1 (past p.0 c.args.at) (connect p.0 c.args.at)) ClientIdentifier is_text c.args.bytes.now c.args.at c.in-Some.client.now c.in-Some.rest.now c.in-Some.ensures.answer
-          c.if-not-is_text.ensures.answer c.ended.ensures.answer;
+      answer = rw (c.in_ok-client.ensures.answer, ← c.if-not-is_text.ensures.answer)
+          (ended_ok c.text.new.self.bytes.now _ _ _ c.in_ok-client.ensures.place c.in_ok-end.ensures.answer);
     }
