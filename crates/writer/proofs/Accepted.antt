@@ -30,7 +30,7 @@ use Rattle.writer.specs.Laws.{Bytes, ReadsLawful}
 -- ---- a step that came to a value
 
 never : {A B : Type 0} (e : ReadError) (x : A) → ◌≡◌ {A = Result A ReadError} (Err e) (Ok x) → B
-never e x h = let z : ◌≡◌ {A = ℕ} 0 1 = cc in absurd (omega arith)
+never e x h = grind arith
 
 pub ok_same : {A : Type 0} (x y : A) → ◌≡◌ {A = Result A ReadError} (Ok x) (Ok y) → x ≡ y
 ok_same x y h = cc
@@ -210,8 +210,8 @@ topic_ok dup qos bs at c b d h =
 -- DUP stands only with a QoS above 0
 dup_by : (f : ℕ) (q : Qos) → allows Publish f ≡ true → qos_of (f / 2 % 4) ≡ Some q → q ≡ AtMostOnce → leb 8 f ≡ false
 dup_by f AtMostOnce a e r = grind (arith, nat_tests)
-dup_by f AtLeastOnce a e r = let z : ◌≡◌ {A = ℕ} 0 1 = cc in absurd (omega arith)
-dup_by f ExactlyOnce a e r = let z : ◌≡◌ {A = ℕ} 0 1 = cc in absurd (omega arith)
+dup_by f AtLeastOnce a e r = grind arith
+dup_by f ExactlyOnce a e r = grind arith
 
 qos_by : (f : ℕ) (bs : List ℕ) (at : ℕ) (c : Content) (o : Option Qos) → Bytes bs → allows Publish f ≡ true → qos_of (f / 2 % 4) ≡ o → with_qos (leb 8 f) bs at o ≡ Ok c → Good c (length bs)
 qos_by f bs at c None b a e h = never _ c h
@@ -381,10 +381,10 @@ good_by Disconnect flags bs at c b a h = empty_ok disconnect (record { fields = 
 -- the type that a first byte announces allows its flags
 allowed-cond : (u t : PacketType) (f : ℕ) (v : Bool) → allows u f ≡ v → cond v (Some u) None ≡ Some t → allows t f ≡ true
 allowed-cond u t f true e h = let same : u ≡ t = cc in subst (λ x. allows x f ≡ true) same e
-allowed-cond u t f false e h = let z : ◌≡◌ {A = ℕ} 0 1 = cc in absurd (omega arith)
+allowed-cond u t f false e h = grind arith
 
 allowed_by : (o : Option PacketType) (f : ℕ) (t : PacketType) → announced o f ≡ Some t → allows t f ≡ true
-allowed_by None f t h = let z : ◌≡◌ {A = ℕ} 0 1 = cc in absurd (omega arith)
+allowed_by None f t h = grind arith
 allowed_by (Some u) f t h = allowed-cond u t f (allows u f) refl h
 
 announces : (first : ℕ) (t : PacketType) → type_in first ≡ Some t → allows t (first % 16) ≡ true
@@ -394,7 +394,7 @@ announces first t h = allowed_by (numbered (first / 16)) (first % 16) t h
 lawful_by : (bs : List ℕ) (c : Content) (r : Result Told BadField) → Bytes bs → parts_in bs ≡ r → after_parts r ≡ Ok c → lawful c ≡ true
 unfolding lawful parts_in
 lawful_by bs c (Err e) b p h = never _ c h
-lawful_by [] c (Ok told) b p h = let z : ◌≡◌ {A = ℕ} 0 1 = cc in absurd (omega arith)
+lawful_by [] c (Ok told) b p h = grind arith
 lawful_by (first ∷ rest) c (Ok told) b p h =
     let there = is_there first rest told p in
     let allow = subst (λ f. allows told.type_is f ≡ true) (sym there.1) (announces first told.type_is there.0) in
@@ -404,6 +404,6 @@ lawful_by (first ∷ rest) c (Ok told) b p h =
     let short : leb (length (body_of c)) 540 ≡ true = let l = g.long in let m = there.3 in grind (arith, nat_tests) in
     simp (fields, short)
 
-pub reads-lawful : ReadsLawful
+pub reads_lawful : ReadsLawful
 unfolding reads
-reads-lawful bs c b h = lawful_by bs c (parts_in bs) b refl h
+reads_lawful bs c b h = lawful_by bs c (parts_in bs) b refl h

@@ -4,7 +4,7 @@ use Rattle.packets.specs.Filters.{Entry}
 use Rattle.packets.specs.Packet.{Content, connect, connack, publish, puback, pubrec, pubrel, pubcomp, subscribe, suback, unsubscribe, unsuback, pingreq, pingresp, disconnect}
 use Rattle.packets.specs.Bytes.{body_at, entry_bytes, placed, placed_from}
 use Rattle.writer.specs.Laws.{Again, bare, bare_entries}
-use Rattle.writer.proofs.Accepted.{reads-lawful}
+use Rattle.writer.proofs.Accepted.{reads_lawful}
 use Rattle.writer.proofs.Trips.{round_trip}
 
 same_entries : (es : List Entry) (at : ℕ) → bare_entries (placed_from at es) ≡ bare_entries es
@@ -29,4 +29,4 @@ same pingresp = refl
 same disconnect = refl
 
 pub again : Again
-again bs c bytes read = (placed c, round_trip c (reads-lawful bs c bytes read), same c)
+again bs c bytes read = (placed c, round_trip c (reads_lawful bs c bytes read), same c)

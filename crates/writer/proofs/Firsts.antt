@@ -17,7 +17,7 @@ are_bytes (x ∷ xs) h = (let k = h 0 in omega arith, are_bytes xs (λ i. h (suc
 
 pub no_first : (es : List Entry) → nth 0 es ≡ None → es ≡ []
 no_first [] h = refl
-no_first (e ∷ es) h = let z : ◌≡◌ {A = ℕ} 0 1 = cc in absurd (omega arith)
+no_first (e ∷ es) h = grind arith
 
 entries_small : (f : Filters) → f.place + length f.part.now < 2 ^ 64 → entries_of f ≡ first_filters f.with_qos f.count f.part.now f.place
 entries_small f h = cond-true _ _ _ (lt-ltb (f.place + length f.part.now) (2 ^ 64) h)
@@ -33,7 +33,7 @@ pub record First (f : Filters) (e : Entry) : Type 0 where
 found_by : (f : Filters) (e : Entry) (n : ℕ) (r : Result Found ReadError) → f.place + length f.part.now < 2 ^ 64 → f.count ≡ suc n → filter_in f.with_qos f.part.now f.place ≡ r
     → nth 0 (heading (first_filters f.with_qos n) r) ≡ Some e → First f e
 unfolding found_at
-found_by f e n (Err x) fits many is h = let z : ◌≡◌ {A = ℕ} 0 1 = cc in absurd (omega arith)
+found_by f e n (Err x) fits many is h = grind arith
 found_by f e n (Ok x) fits many is h =
     let k = filter_ok f.with_qos f.part.now f.place x is in
     let entry : x.entry ≡ e = cc in
@@ -55,8 +55,8 @@ found_by f e n (Ok x) fits many is h =
     })
 
 first_by : (f : Filters) (e : Entry) (n : ℕ) (v : Bool) → ltb (f.place + length f.part.now) (2 ^ 64) ≡ v → f.count ≡ n → nth 0 (cond v (first_filters f.with_qos n f.part.now f.place) []) ≡ Some e → First f e
-first_by f e n false small many h = let z : ◌≡◌ {A = ℕ} 0 1 = cc in absurd (omega arith)
-first_by f e zero true small many h = let z : ◌≡◌ {A = ℕ} 0 1 = cc in absurd (omega arith)
+first_by f e n false small many h = grind arith
+first_by f e zero true small many h = grind arith
 first_by f e (suc n) true small many h = found_by f e n (filter_in f.with_qos f.part.now f.place) (ltb-true _ _ small) many refl h
 
 pub first : (f : Filters) (e : Entry) → nth 0 (entries_of f) ≡ Some e → First f e

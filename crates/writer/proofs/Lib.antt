@@ -1,7 +1,5 @@
 pub mod Fronts
 pub mod Counts
-pub mod Lists
-pub mod Sending
 pub mod Trips
 pub mod Accepted
 pub mod Firsts

@@ -86,7 +86,7 @@ codes (suc k) (c ∷ cs) at h e =
     rw (p.0, codes k cs (at + 1) (omega arith) p.1)
 
 some_codes_lem : (cs : List ℕ) (at : ℕ) → up_to_eight (length cs) ≡ true → every is_code cs ≡ true → some_codes cs at ≡ Ok cs
-some_codes_lem [] at h e = absurd (let z : ◌≡◌ {A = ℕ} 0 1 = cc in omega arith)
+some_codes_lem [] at h e = grind arith
 some_codes_lem (c ∷ cs) at h e =
     codes 8 (c ∷ cs) at (leb-true _ 8 (and_parts (ltb 0 (length (c ∷ cs))) (leb (length (c ∷ cs)) 8) h).1) e
 
@@ -124,8 +124,8 @@ bare_entry f rest at good =
 
 pub one_entry : (graded : Bool) (f : List ℕ) (q : Option Qos) (rest : List ℕ) (at : ℕ) → is_topic_filter f ≡ true → cond graded (is_asked q) (not (is_asked q)) ≡ true → filter_in graded ((text_bytes f ++ qos_bytes q) ++ rest) at ≡ Ok (found_at f q at rest)
 one_entry true f (Some q) rest at good h = graded_entry f q rest at good
-one_entry true f None rest at good h = absurd (let z : ◌≡◌ {A = ℕ} 0 1 = cc in omega arith)
-one_entry false f (Some q) rest at good h = absurd (let z : ◌≡◌ {A = ℕ} 0 1 = cc in omega arith)
+one_entry true f None rest at good h = grind arith
+one_entry false f (Some q) rest at good h = grind arith
 one_entry false f None rest at good h = bare_entry f rest at good
 
 entries : (graded : Bool) (k : ℕ) (es : List Entry) (at : ℕ) → length es ≤ k → lawful_entries graded es ≡ true → filters_in graded k (entries_bytes es) at ≡ Ok (placed_from at es)
@@ -141,7 +141,7 @@ entries graded (suc k) (e ∷ es) at h law =
     ∙ ap (λ r. before (record { filter = e.filter; place = at; qos = e.qos }) r) (entries graded k es next (omega arith) outer.1)
 
 some_entries : (graded : Bool) (es : List Entry) (at : ℕ) → up_to_eight (length es) ≡ true → lawful_entries graded es ≡ true → some_filters graded (entries_bytes es) at ≡ Ok (placed_from at es)
-some_entries graded [] at h law = absurd (let z : ◌≡◌ {A = ℕ} 0 1 = cc in omega arith)
+some_entries graded [] at h law = grind arith
 some_entries graded (e ∷ es) at h law =
     entries graded 8 (e ∷ es) at (leb-true _ 8 (and_parts (ltb 0 (length (e ∷ es))) (leb (length (e ∷ es)) 8) h).1) law
 
@@ -166,10 +166,10 @@ numbered dup q topic ta id payload at h few =
 after : (dup : Bool) (q : Qos) (topic : List ℕ) (ta : ℕ) (id : Option ℕ) (payload : List ℕ) (at : ℕ) → lawful_flow dup q id ≡ true → leb (length payload) 256 ≡ true
     → after_topic dup q topic ta (id_bytes id ++ payload) at ≡ Ok (publish dup q topic ta id payload (at + length (id_bytes id)))
 after dup AtMostOnce topic ta None payload at flow few = rw add-zero (paid dup AtMostOnce topic ta None payload at few)
-after dup AtMostOnce topic ta (Some id) payload at flow few = absurd (let z : ◌≡◌ {A = ℕ} 0 1 = cc in omega arith)
-after dup AtLeastOnce topic ta None payload at flow few = absurd (let z : ◌≡◌ {A = ℕ} 0 1 = cc in omega arith)
+after dup AtMostOnce topic ta (Some id) payload at flow few = grind arith
+after dup AtLeastOnce topic ta None payload at flow few = grind arith
 after dup AtLeastOnce topic ta (Some id) payload at flow few = numbered dup AtLeastOnce topic ta id payload at flow few
-after dup ExactlyOnce topic ta None payload at flow few = absurd (let z : ◌≡◌ {A = ℕ} 0 1 = cc in omega arith)
+after dup ExactlyOnce topic ta None payload at flow few = grind arith
 after dup ExactlyOnce topic ta (Some id) payload at flow few = numbered dup ExactlyOnce topic ta id payload at flow few
 
 sent : (dup : Bool) (q : Qos) (topic : List ℕ) (id : Option ℕ) (payload : List ℕ) (at : ℕ) → length topic < 65536 → (is_topic_name topic && lawful_flow dup q id && leb (length payload) 256) ≡ true
