@@ -1,5 +1,4 @@
 pub mod Texts
-pub mod Bytes
 pub mod Cuts
 pub mod Wildcards
 pub mod Steps
