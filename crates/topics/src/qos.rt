@@ -1,6 +1,6 @@
 // The quality of service of a message or a subscription.
 ghost use Rattle.std.specs.Prelude.{◌≡◌};
-ghost use Rattle.topics.specs.Qos.{Decodes, QosLaw, greater, lesser, qos_number, qos_of};
+ghost use Rattle.topics.specs.Qos.{Decodes, QosLaw, greater, lesser, qos_number};
 
 /// How often a message may arrive: at most once (0), at least once (1), exactly once (2).
 #[derive(Clone, Copy, Debug, PartialEq, Eq, PartialOrd, Ord)]
@@ -30,18 +30,6 @@ impl TryFrom<u8> for Qos {
 }
 
 impl Qos {
-    /// The quality of service with this number, or none above 2.
-    pub fn from_number(n: u8) -> Option<Qos>
-        ensures answer { result ≡ qos_of n }
-    {
-        match n {
-            0 => Some(Qos::AtMostOnce),
-            1 => Some(Qos::AtLeastOnce),
-            2 => Some(Qos::ExactlyOnce),
-            _ => None,
-        }
-    }
-
     /// Its number, 0 to 2.
     pub fn number(self) -> u8
         ensures answer { result ≡ qos_number self }
