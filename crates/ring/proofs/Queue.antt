@@ -1,8 +1,7 @@
 -- A run of pushes and pops is a run of a list queue.
 use Rattle.std.proofs.Common.{◌≡◌, ℕ, ◌+◌, ◌<◌, List, [], ◌∷◌, ◌++◌, length, get_or, take, drop, set, Some, None, Ok, Err, sym, refl, ap, ◌∙◌, subst, append_assoc, append-nil, arith, length-set, drop-set-lt}
-use Rattle.std.specs.List.{slice_get}
 use Rattle.std.proofs.lemmas.List.{flat_map_more, length_push, take_more, take_more_set, drop-drop}
-use Rattle.std.proofs.lemmas.Bool.{cond_below, cond_above}
+use Rattle.std.proofs.lemmas.Bool.Decides.{nat_tests}
 use Rattle.ring.specs.declared.Ring.{Ring}
 use Rattle.ring.specs.declared.run.Step.{Step}
 use Rattle.ring.specs.declared.run.Step.TheVariants.{Push, Pop}
@@ -18,36 +17,16 @@ pub record StepQueues {T : Type 0} (n : ℕ) (ws : List T) (s : Step T) (a : Ans
   pub order : leaving a ++ ws' ≡ ws ++ entering s a
 
 push_taken : {T : Type 0} (n : ℕ) (ws ws' : List T) (x : T) → length ws < n → ws' ≡ ws ++ x ∷ [] → StepQueues n ws (Push x) (OfPush (Ok tt)) ws'
-push_taken n ws ws' x h e =
-    record {
-      answer = ap OfPush (cond_below (length ws) n (Ok tt) (Err x) h);
-      after = e ∙ cond_below (length ws) n (ws ++ x ∷ []) ws h;
-      order = e;
-    }
+push_taken n ws ws' x h e = record { answer = grind (arith, nat_tests); after = grind (arith, nat_tests); order = e }
 
 push_full : {T : Type 0} (n : ℕ) (ws ws' : List T) (x y : T) → length ws ≡ n → y ≡ x → ws' ≡ ws → StepQueues n ws (Push x) (OfPush (Err y)) ws'
-push_full n ws ws' x y h b e =
-    record {
-      answer = ap OfPush (cond_above (length ws) n (Ok tt) (Err x) (Err y) (omega arith) (ap Err b));
-      after = cond_above (length ws) n (ws ++ x ∷ []) ws ws' (omega arith) e;
-      order = e ∙ sym (append-nil ws);
-    }
+push_full n ws ws' x y h b e = record { answer = grind (arith, nat_tests); after = grind (arith, nat_tests); order = e ∙ sym (append-nil ws) }
 
 pop_some : {T : Type 0} (n : ℕ) (ws ws' : List T) (x : T) → ws ≡ x ∷ ws' → StepQueues n ws Pop (OfPop (Some x)) ws'
-pop_some n ws ws' x e =
-    record {
-      answer = ap (λ vs. OfPop (slice_get vs 0)) (sym e);
-      after = ap (drop 1) (sym e);
-      order = sym e ∙ sym (append-nil ws);
-    }
+pop_some n ws ws' x e = record { answer = grind arith; after = grind arith; order = sym e ∙ sym (append-nil ws) }
 
 pop_none : {T : Type 0} (n : ℕ) (ws ws' : List T) → ws ≡ [] → ws' ≡ ws → StepQueues n ws Pop (OfPop None) ws'
-pop_none n ws ws' e f =
-    record {
-      answer = ap (λ vs. OfPop (slice_get vs 0)) (sym e);
-      after = f ∙ e ∙ ap (drop 1) (sym e);
-      order = f ∙ sym (append-nil ws);
-    }
+pop_none n ws ws' e f = record { answer = grind arith; after = grind arith; order = f ∙ sym (append-nil ws) }
 
 module _ {T : Type 0} where
   -- a step answers as the list queue does, and the memory keeps its length

@@ -2,8 +2,9 @@
 use Rattle.std.proofs.Common.{◌≡◌, ℕ, ◌+◌, ◌-◌, ◌%◌, ◌<◌, ◌≤◌, List, [], ◌∷◌, ◌++◌, length, get_or, take, drop, set, sym, ap, ◌∙◌, ⊎_elim, append_assoc, append-nil, mod-lt, mod-eq_of_lt, arith, length-append, length-drop, length-take, drop-set-lt}
 use native.Mathlib.Nat.{mod-add-mod, mod-eq-sub-mod}
 use lib.Seq.{take-set-lt, take-set-le, drop-set-add}
-use Rattle.std.proofs.lemmas.List.{take_more, drop_more, drop_all, take_all, get_or_append_left, get_or-append_right, get_or-drop, get_or-take, set-append_left, set-append_right}
+use Rattle.std.proofs.lemmas.List.{take_more, drop_more, drop_all, take_all, get_or-append_right, set-append_left, set-append_right}
 use Rattle.std.proofs.lemmas.Bool.{cases_lt}
+use Rattle.std.proofs.lemmas.Grind.{common_steps}
 use Rattle.ring.specs.Ring.{round}
 
 -- the i-th place after `first` in n places: short of the end it is that sum, past the end it begins again
@@ -23,17 +24,8 @@ pub ruleset places = (place_near, place_far)
 pub place-apart : (first n i j : ℕ) → i < n → j < n → (first + i) % n ≡ (first + j) % n → i ≡ j
 place-apart first n i j in-i in-j e =
     let some : 0 < n = omega arith in
-    let in_f : first % n < n = mod-lt first some in
-    ⊎_elim
-    (λ (h : first % n + i < n). ⊎_elim
-    (λ (k : first % n + j < n). omega (arith, place_near first n i h, place_near first n j k))
-    (λ (k : n ≤ first % n + j). omega (arith, place_near first n i h, place_far first n j in-j k))
-    (cases_lt (first % n + j) n))
-    (λ (h : n ≤ first % n + i). ⊎_elim
-    (λ (k : first % n + j < n). omega (arith, place_far first n i in-i h, place_near first n j k))
-    (λ (k : n ≤ first % n + j). omega (arith, place_far first n i in-i h, place_far first n j in-j k))
-    (cases_lt (first % n + j) n))
-    (cases_lt (first % n + i) n)
+    let in_f = mod-lt first some in
+    grind (arith, place_near first n i, place_near first n j, place_far first n i in-i, place_far first n j in-j)
 
 pub length-round : {T : Type 0} (f : ℕ) (xs : List T) → length (round f xs) ≡ length xs
 unfolding round
@@ -42,19 +34,13 @@ length-round f xs = simp (length-append, length-drop, length-take) (omega arith)
 module _ {T : Type 0} (f : ℕ) (xs : List T) (i : ℕ) (in_f : f < length xs) (in-i : i < length xs) where
   get_or_near : (d : T) → f + i < length xs → get_or (round f xs) i d ≡ get_or xs (f + i) d
   unfolding round
-  get_or_near d h =
-      let short : i < length (drop f xs) = simp length-drop (omega arith) in
-      get_or_append_left (drop f xs) (take f xs) d i short ∙ get_or-drop f xs i d
+  get_or_near d h = grind (arith, common_steps)
 
   get_or_far : (d : T) → length xs ≤ f + i → get_or (round f xs) i d ≡ get_or xs (f + i - length xs) d
   unfolding round
   get_or_far d h =
-      let n = length xs - f in
-      let same : i - n ≡ f + i - length xs = omega arith in
-      let less : i - n < f = omega arith in
-      get_or-append_right (drop f xs) (take f xs) n i d (length-drop f xs) (omega arith)
-      ∙ get_or-take f xs (i - n) d less
-      ∙ ap (λ k. get_or xs k d) same
+      let right = get_or-append_right (drop f xs) (take f xs) (length xs - f) i d (length-drop f xs) (omega arith) in
+      grind (arith, common_steps)
 
   set_near : (x : T) → f + i < length xs → round f (set xs (f + i) x) ≡ set (round f xs) i x
   unfolding round
