@@ -36,7 +36,8 @@ fn is_protocol_name(name: &[u8]) -> bool
     name == PROTOCOL_NAME.as_slice()
 }
 
-// The client identifier, and the end.
+// The client identifier, and the end. Inlined: the packet is written once, into the reader's answer.
+#[inline(always)]
 fn read_client(mut cursor: Cursor<'_>) -> Result<Packet<'_>, ReadError>
     ensures answer { outcome result ≡ client_in cursor.entry.bytes.now cursor.entry.at }
 {

@@ -10,7 +10,9 @@ use crate::filters::read_filters;
 use crate::packet::{Filters, MAX_FILTERS, Packet, ReadError};
 use frame::field::Field;
 
-// A SUBSCRIBE, or without QoS bytes an UNSUBSCRIBE, from its identifier on.
+// A SUBSCRIBE, or without QoS bytes an UNSUBSCRIBE, from its identifier on. The flag is the one that `Filters` carries.
+// Inlined: the packet is written once, into the reader's answer.
+#[inline(always)]
 pub(crate) fn read_subscribe(
     with_qos: bool,
     mut cursor: Cursor<'_>,
