@@ -27,9 +27,7 @@ impl<'a> Cursor<'a> {
     pub(crate) fn new(bytes: &'a [u8], at: usize) -> Option<Cursor<'a>>
         ensures answer { MatchOption result (2 ^ 64 ≤ at + length bytes.now) (λ c. (c.bytes.now ≡ bytes.now) × (c.at ≡ at)) }
     {
-        if at > usize::MAX - bytes.len() {
-            return None;
-        }
+        at.checked_add(bytes.len())?;
         Some(Cursor { bytes, at })
     }
 
