@@ -1,5 +1,5 @@
 // The answer to a line of a script.
-ghost use Rattle.std.specs.Prelude.{◌≡◌, IfOk, Some, Ok, string_bytes};
+ghost use Rattle.std.specs.Prelude.{IfOk, Some, Ok, string_bytes};
 ghost use Rattle.store.specs.Making.{Makes};
 ghost use Rattle.pile.specs.Pile.{pile_disk};
 ghost use Rattle.script.specs.declared.command.Command.TheVariants.{Call as ACall};
