@@ -55,6 +55,7 @@ impl Call {
 
 /// Makes the calls in order, refused ones too, and answers one number or refusal each. Want of memory for the answers
 /// comes before the first call.
+// Apart from `store::change::apply`, as a call may also read, and answers a number.
 pub fn run<S: Store>(heap: Global, store: &mut S, calls: &[Call]) -> Result<Vec<Answer>, AllocError>
     ensures answer { IfOk result (λ v. v.items ≡ answers (S.Store.disk store.old) calls.now) }
     ensures after { S.Store.disk store.new ≡ ran_after result (S.Store.disk store.old) calls.now }

@@ -11,6 +11,8 @@ use store::making::{Made, MakeError};
 use table::Table;
 
 // Performs the operations in order and answers one number each. Want of memory comes before the first.
+// Apart from `store::change::apply`, as an operation also reads a pool and writes a buffer. Heap and slices go on one by
+// one: C hands them so.
 fn run<S: Store>(
     heap: Global,
     store: &mut S,

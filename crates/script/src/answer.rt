@@ -1,5 +1,5 @@
 // The answer to a line of a script.
-ghost use Rattle.std.specs.Prelude.{◌≡◌, IfOk, Some, Ok, string_bytes};
+ghost use Rattle.std.specs.Prelude.{IfOk, Some, Ok, string_bytes};
 ghost use Rattle.store.specs.Making.{Makes};
 ghost use Rattle.pile.specs.Pile.{pile_disk};
 ghost use Rattle.script.specs.declared.command.Command.TheVariants.{Call as ACall};
@@ -44,7 +44,10 @@ pub fn perform(
     ensures answer { IfOk result (λ t. Performs (asked command.entry) pile line.now t) }
 {
     match (command, pile) {
-        (Ok(Command::Nothing), pile) => Turn::new(heap, pile, ""),
+        (Ok(Command::Nothing), pile) => Ok(Turn {
+            pile,
+            text: String::new(heap),
+        }),
         (Ok(Command::Store { base, rows }), _) => store_turn(heap, base, rows),
         (Ok(Command::Window { spans }), Some(pile)) => window_turn(heap, pile, spans, line),
         (Ok(Command::Call(call)), Some(pile)) => call_turn(heap, pile, call, line),
@@ -136,6 +139,7 @@ fn put_text(
 }
 
 impl Turn {
+    // A store, if one stands then, and a text to print.
     fn new(heap: Global, pile: Option<Pile>, text: &str) -> Result<Turn, AllocError>
         ensures answer { IfOk result (Prints pile text.now) }
     {

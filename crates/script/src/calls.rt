@@ -1,6 +1,6 @@
 // Calls on any store, each with the line that tells what it answered.
 ghost use Rattle.std.specs.Prelude.{◌≡◌, IfOk, string_bytes};
-ghost use Rattle.store.specs.Disk.{put_answer, put_after, drop_answer, drop_after, powered};
+ghost use Rattle.store.specs.Disk.{put_answer, put_after, drop_answer, drop_after};
 ghost use Rattle.script.specs.Texts.{row_word, loaded_text, load_text, put_text, drop_text, free_text, limit_text};
 
 use crate::texts::end_word;
