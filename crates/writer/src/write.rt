@@ -1,8 +1,8 @@
 // Packets as bytes.
-ghost use Rattle.std.specs.Prelude.{◌≡◌, MatchOption, true, cond, not, ◌&&◌, [], ◌++◌, length as len};
+ghost use Rattle.std.specs.Prelude.{◌≡◌, true, [], length as len, MatchOption};
 ghost use Rattle.frame.specs.Number.{number_bytes};
 ghost use Rattle.topics.specs.Text.{every};
-ghost use Rattle.packets.specs.Bytes.{bytes_of, entries_bytes, is_id, lawful, lawful_entries, lawful_flow, text_bytes, up_to_eight};
+ghost use Rattle.packets.specs.Bytes.{bytes_of, is_id, lawful, lawful_flow, up_to_eight};
 ghost use Rattle.packets.specs.Filters.{entries_of};
 ghost use Rattle.packets.specs.Packet.{connack, connect, content, publish, suback};
 ghost use Rattle.packets.specs.Reads.{filters_of, is_code};
