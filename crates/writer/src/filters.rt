@@ -1,5 +1,5 @@
 // How much of a part is filters.
-ghost use Rattle.std.specs.Prelude.{◌≡◌, ℕ, [], ◌∷◌, ◌++◌, MatchOption};
+ghost use Rattle.std.specs.Prelude.{◌≡◌, [], ◌∷◌, ◌++◌, MatchOption};
 ghost use Rattle.packets.specs.Bytes.{entry_bytes};
 ghost use Rattle.packets.specs.Filters.{Entry, entries_of, entry_of};
 ghost use Rattle.writer.specs.Filters.{Follows, Leads, Spans};

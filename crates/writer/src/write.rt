@@ -1,8 +1,8 @@
 // Packets as bytes.
-ghost use Rattle.std.specs.Prelude.{◌≡◌, MatchOption, true, cond, not, ◌&&◌, [], ◌++◌, length as len};
+ghost use Rattle.std.specs.Prelude.{◌≡◌, true, [], length as len, MatchOption};
 ghost use Rattle.frame.specs.Number.{number_bytes};
 ghost use Rattle.topics.specs.Text.{every};
-ghost use Rattle.packets.specs.Bytes.{bytes_of, entries_bytes, is_id, lawful, lawful_entries, lawful_flow, text_bytes, up_to_eight};
+ghost use Rattle.packets.specs.Bytes.{bytes_of, is_id, lawful, lawful_flow, up_to_eight};
 ghost use Rattle.packets.specs.Filters.{entries_of};
 ghost use Rattle.packets.specs.Packet.{connack, connect, content, publish, suback};
 ghost use Rattle.packets.specs.Reads.{filters_of, is_code};
@@ -13,6 +13,7 @@ use crate::filters::held;
 use crate::out::{Image, WriteError};
 use frame::first_byte::PacketType;
 use frame::number::write_number;
+use packets::codes::{MAX_RETURN_CODE, is_code};
 use packets::packet::{Filters, MAX_FILTERS, MAX_PAYLOAD, PROTOCOL_LEVEL, PROTOCOL_NAME, Packet};
 use topics::names::is_topic_name;
 use topics::qos::Qos;
@@ -20,12 +21,6 @@ use topics::text::is_text;
 
 // Bit 3 of a PUBLISH's first byte.
 const DUP: u8 = 8;
-
-// The highest return code of a CONNACK.
-const MAX_RETURN_CODE: u8 = 5;
-
-// The code of a SUBACK for a filter that was refused.
-const REFUSED: u8 = 0x80;
 
 /// Writes the packet at the buffer's start, RETAIN and keep-alive 0, and answers its length; the rest of the buffer stays.
 /// Too short a buffer is refused with the length needed, then a packet that may not be sent; either leaves the buffer as it was.
@@ -208,13 +203,6 @@ fn are_codes(codes: &[u8]) -> bool
     ensures answer { result ≡ every is_code codes.now }
 {
     codes.iter().all(|code| is_code(*code))
-}
-
-// A granted quality of service, or the refusal.
-fn is_code(code: u8) -> bool
-    ensures answer { result ≡ is_code code }
-{
-    Qos::try_from(code).is_ok() || code == REFUSED
 }
 
 // An identifier stands exactly where QoS is above 0, and only there may DUP.
