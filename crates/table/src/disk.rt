@@ -1,4 +1,5 @@
 // A table as a store.
+ghost use Rattle.store.specs.Making.{Makes};
 ghost use Rattle.table.specs.Disk.{table_disk};
 ghost use Rattle.table.specs.Sound.{table_sound};
 
@@ -59,7 +60,9 @@ impl Store for Table {
 }
 
 impl Made for Table {
-    fn new(heap: Global, rows: u32) -> Result<Table, MakeError> {
+    fn new(heap: Global, rows: u32) -> Result<Table, MakeError>
+        ensures answer { Makes table_disk rows result }
+    {
         let budget = Budget::new(rows)?;
         let rows = Rows::new(heap)?;
         Ok(Table { rows, budget })
