@@ -54,9 +54,7 @@ impl<'a> Cursor<'a> {
         ensures answer { Takes (byte_in self.old.bytes.now) self.old.bytes.now self.old.at self.new.bytes.now result }
         ensures place { OnOk result (self.new.at ≡ self.old.at + 1) }
     {
-        let Some((byte, rest)) = self.bytes.split_first() else {
-            return Err(self.missing());
-        };
+        let (byte, rest) = self.bytes.split_first().ok_or(self.missing())?;
         *self = Cursor {
             bytes: rest,
             at: self.at + 1,
@@ -69,9 +67,7 @@ impl<'a> Cursor<'a> {
         ensures answer { Takes (number_in self.old.bytes.now) self.old.bytes.now self.old.at self.new.bytes.now result }
         ensures place { OnOk result (self.new.at ≡ self.old.at + 2) }
     {
-        let Some((number, rest)) = read_number(self.bytes) else {
-            return Err(self.missing());
-        };
+        let (number, rest) = read_number(self.bytes).ok_or(self.missing())?;
         *self = Cursor {
             bytes: rest,
             at: self.at + 2,
@@ -84,9 +80,7 @@ impl<'a> Cursor<'a> {
         ensures answer { Takes (cut count self.old.bytes.now) self.old.bytes.now self.old.at self.new.bytes.now (lent result) }
         ensures place { OnOk result (self.new.at ≡ self.old.at + count) }
     {
-        let Some((taken, rest)) = self.bytes.split_at_checked(count) else {
-            return Err(self.missing());
-        };
+        let (taken, rest) = self.bytes.split_at_checked(count).ok_or(self.missing())?;
         *self = Cursor {
             bytes: rest,
             at: self.at + count,
