@@ -51,6 +51,7 @@ impl Log {
     }
 
     // Appends the change; where all places are taken, clears dead changes first.
+    #[inline(always)]
     pub(crate) fn append(&mut self, key: Key, row: &[u8])
         requires short { length row.now ≤ 560 }
         requires room { length (live (logged self.old)) < places_of self.old }
