@@ -83,7 +83,7 @@ Takes first bs at rest r = MatchResult r (λ x. first ≡ Some (x, rest)) (λ e.
 abbrev pub Finds : {A : Type 0} → Result (A × List ℕ) ReadError → List ℕ → Result A ReadError → Type 0
 Finds found rest r = MatchResult r (λ x. found ≡ Ok (x, rest)) (λ e. found ≡ Err e)
 
--- an answer with the bytes in place of the borrowed part
-abbrev pub bytes_of : Result (Bor (List ℕ)) ReadError → Result (List ℕ) ReadError
-bytes_of (Ok b) = Ok b.now
-bytes_of (Err e) = Err e
+-- the bytes that an answer lends
+abbrev pub lent : Result (Bor (List ℕ)) ReadError → Result (List ℕ) ReadError
+lent (Ok b) = Ok b.now
+lent (Err e) = Err e

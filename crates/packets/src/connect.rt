@@ -11,8 +11,8 @@ use frame::field::Field;
 use topics::text::is_text;
 
 // A CONNECT from its protocol name on. Another level ends the reading, the flags are all 0, and the keep-alive has no effect.
-pub(crate) fn read_connect<'a>(cursor: &mut Cursor<'a>) -> Result<Packet<'a>, ReadError>
-    ensures answer { outcome result ≡ connect_in cursor.old.bytes.now cursor.old.at }
+pub(crate) fn read_connect(mut cursor: Cursor<'_>) -> Result<Packet<'_>, ReadError>
+    ensures answer { outcome result ≡ connect_in cursor.entry.bytes.now cursor.entry.at }
 {
     let name_at = cursor.at;
     let name = cursor.take(PROTOCOL_NAME.len())?;
@@ -36,9 +36,10 @@ fn is_protocol_name(name: &[u8]) -> bool
     name == PROTOCOL_NAME.as_slice()
 }
 
-// The client identifier, and the end.
-fn read_client<'a>(cursor: &mut Cursor<'a>) -> Result<Packet<'a>, ReadError>
-    ensures answer { outcome result ≡ client_in cursor.old.bytes.now cursor.old.at }
+// The client identifier, and the end. Inlined: the packet is written once, into the reader's answer.
+#[inline(always)]
+fn read_client(mut cursor: Cursor<'_>) -> Result<Packet<'_>, ReadError>
+    ensures answer { outcome result ≡ client_in cursor.entry.bytes.now cursor.entry.at }
 {
     let client_at = cursor.at;
     let client = cursor.text()?;
@@ -50,8 +51,8 @@ fn read_client<'a>(cursor: &mut Cursor<'a>) -> Result<Packet<'a>, ReadError>
 }
 
 // A CONNACK from its session present byte on.
-pub(crate) fn read_connack<'a>(cursor: &mut Cursor<'a>) -> Result<Packet<'a>, ReadError>
-    ensures answer { outcome result ≡ connack_in cursor.old.bytes.now cursor.old.at }
+pub(crate) fn read_connack(mut cursor: Cursor<'_>) -> Result<Packet<'_>, ReadError>
+    ensures answer { outcome result ≡ connack_in cursor.entry.bytes.now cursor.entry.at }
 {
     let present_at = cursor.at;
     let present = cursor.byte()?;

@@ -1,7 +1,7 @@
 // What is left of a packet while it is read, and the steps that several packets share.
 ghost use Rattle.std.specs.Prelude.{◌≡◌, ◌+◌, ◌^◌, ◌<◌, ◌≤◌, length, MatchOption, IfOk, OnOk};
 ghost use Rattle.frame.specs.Number.{number_in};
-ghost use Rattle.packets.specs.Fields.{Finds, Takes, bad_at, byte_in, bytes_of, cut, ended, identifier_in, length_prefixed, only_identifier, past};
+ghost use Rattle.packets.specs.Fields.{Finds, Takes, bad_at, byte_in, lent, cut, ended, identifier_in, length_prefixed, only_identifier, past};
 
 use crate::packet::ReadError;
 use frame::field::{BadField, Field};
@@ -27,9 +27,7 @@ impl<'a> Cursor<'a> {
     pub(crate) fn new(bytes: &'a [u8], at: usize) -> Option<Cursor<'a>>
         ensures answer { MatchOption result (2 ^ 64 ≤ at + length bytes.now) (λ c. (c.bytes.now ≡ bytes.now) × (c.at ≡ at)) }
     {
-        if at > usize::MAX - bytes.len() {
-            return None;
-        }
+        at.checked_add(bytes.len())?;
         Some(Cursor { bytes, at })
     }
 
@@ -83,7 +81,7 @@ impl<'a> Cursor<'a> {
 
     // Takes so many bytes.
     pub(crate) fn take(&mut self, count: usize) -> Result<&'a [u8], ReadError>
-        ensures answer { Takes (cut count self.old.bytes.now) self.old.bytes.now self.old.at self.new.bytes.now (bytes_of result) }
+        ensures answer { Takes (cut count self.old.bytes.now) self.old.bytes.now self.old.at self.new.bytes.now (lent result) }
         ensures place { OnOk result (self.new.at ≡ self.old.at + count) }
     {
         let Some((taken, rest)) = self.bytes.split_at_checked(count) else {
@@ -98,7 +96,7 @@ impl<'a> Cursor<'a> {
 
     // Takes the bytes that a two-byte length announces.
     pub(crate) fn text(&mut self) -> Result<&'a [u8], ReadError>
-        ensures answer { Takes (length_prefixed self.old.bytes.now) self.old.bytes.now self.old.at self.new.bytes.now (bytes_of result) }
+        ensures answer { Takes (length_prefixed self.old.bytes.now) self.old.bytes.now self.old.at self.new.bytes.now (lent result) }
         ensures place { IfOk result (λ text. self.new.at ≡ past text.now self.old.at) }
     {
         let count = self.number()?;

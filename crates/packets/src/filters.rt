@@ -52,11 +52,8 @@ fn read_filter<'a>(with_qos: bool, cursor: &mut Cursor<'a>) -> Result<Filter<'a>
 }
 
 // One filter to eight, up to the packet's end.
-pub(crate) fn read_filters<'a>(
-    with_qos: bool,
-    cursor: &mut Cursor<'a>,
-) -> Result<Filters<'a>, ReadError>
-    ensures answer { told result ≡ some_filters with_qos cursor.old.bytes.now cursor.old.at }
+pub(crate) fn read_filters(with_qos: bool, cursor: Cursor<'_>) -> Result<Filters<'_>, ReadError>
+    ensures answer { told result ≡ some_filters with_qos cursor.entry.bytes.now cursor.entry.at }
 {
     if cursor.bytes.is_empty() {
         return Err(cursor.missing());
@@ -73,14 +70,14 @@ pub(crate) fn read_filters<'a>(
 }
 
 // How many filters there are up to the packet's end, at most eight.
-fn count_filters(with_qos: bool, cursor: &mut Cursor<'_>) -> Result<usize, ReadError>
-    ensures answer { counted with_qos cursor.old.bytes.now cursor.old.at result ≡ filters_in with_qos 8 cursor.old.bytes.now cursor.old.at }
+fn count_filters(with_qos: bool, mut cursor: Cursor<'_>) -> Result<usize, ReadError>
+    ensures answer { counted with_qos cursor.entry.bytes.now cursor.entry.at result ≡ filters_in with_qos 8 cursor.entry.bytes.now cursor.entry.at }
 {
     for count in 0..MAX_FILTERS {
         if cursor.bytes.is_empty() {
             return Ok(count);
         }
-        read_filter(with_qos, cursor)?;
+        read_filter(with_qos, &mut cursor)?;
     }
     cursor.end()?;
     Ok(MAX_FILTERS)

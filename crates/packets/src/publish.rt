@@ -11,8 +11,8 @@ use topics::names::is_topic_name;
 use topics::qos::Qos;
 
 // A PUBLISH from its topic on, with the flags of its first byte.
-pub(crate) fn read_publish<'a>(flags: u8, cursor: &mut Cursor<'a>) -> Result<Packet<'a>, ReadError>
-    ensures answer { outcome result ≡ publish_in flags cursor.old.bytes.now cursor.old.at }
+pub(crate) fn read_publish(flags: u8, mut cursor: Cursor<'_>) -> Result<Packet<'_>, ReadError>
+    ensures answer { outcome result ≡ publish_in flags cursor.entry.bytes.now cursor.entry.at }
 {
     let Ok(qos) = Qos::try_from(flags / 2 % 4) else {
         return Err(bad(Field::FirstByte, 0));
@@ -22,7 +22,7 @@ pub(crate) fn read_publish<'a>(flags: u8, cursor: &mut Cursor<'a>) -> Result<Pac
     if !is_topic_name(topic) {
         return Err(bad(Field::TopicName, topic_at));
     }
-    let id = flow_identifier(qos, cursor)?;
+    let id = flow_identifier(qos, &mut cursor)?;
     if cursor.bytes.len() > MAX_PAYLOAD {
         return Err(bad(Field::Payload, cursor.at));
     }

@@ -16,20 +16,20 @@ pub fn read(bytes: &[u8]) -> Result<Packet<'_>, ReadError>
     ensures answer { outcome result ≡ reads bytes.now }
 {
     let parts = split_packet(bytes)?;
-    let mut cursor = Cursor {
+    let cursor = Cursor {
         bytes: parts.body,
         at: parts.place,
     };
-    read_body(parts.packet_type, parts.flags, &mut cursor)
+    read_body(parts.packet_type, parts.flags, cursor)
 }
 
 // The body of a packet of this type, with the flags of its first byte.
-fn read_body<'a>(
+fn read_body(
     packet_type: PacketType,
     flags: u8,
-    cursor: &mut Cursor<'a>,
-) -> Result<Packet<'a>, ReadError>
-    ensures answer { outcome result ≡ body_in packet_type flags cursor.old.bytes.now cursor.old.at }
+    mut cursor: Cursor<'_>,
+) -> Result<Packet<'_>, ReadError>
+    ensures answer { outcome result ≡ body_in packet_type flags cursor.entry.bytes.now cursor.entry.at }
 {
     match packet_type {
         PacketType::Connect => read_connect(cursor),

@@ -10,12 +10,14 @@ use crate::filters::read_filters;
 use crate::packet::{Filters, MAX_FILTERS, Packet, ReadError};
 use frame::field::Field;
 
-// A SUBSCRIBE, or without QoS bytes an UNSUBSCRIBE, from its identifier on.
-pub(crate) fn read_subscribe<'a>(
+// A SUBSCRIBE, or without QoS bytes an UNSUBSCRIBE, from its identifier on. The flag is the one that `Filters` carries.
+// Inlined: the packet is written once, into the reader's answer.
+#[inline(always)]
+pub(crate) fn read_subscribe(
     with_qos: bool,
-    cursor: &mut Cursor<'a>,
-) -> Result<Packet<'a>, ReadError>
-    ensures answer { outcome result ≡ subscribe_in with_qos cursor.old.bytes.now cursor.old.at }
+    mut cursor: Cursor<'_>,
+) -> Result<Packet<'_>, ReadError>
+    ensures answer { outcome result ≡ subscribe_in with_qos cursor.entry.bytes.now cursor.entry.at }
 {
     let id = cursor.identifier()?;
     let filters = read_filters(with_qos, cursor)?;
@@ -33,8 +35,8 @@ fn with_filters(with_qos: bool, id: u16, filters: Filters<'_>) -> Packet<'_>
 }
 
 // A SUBACK from its identifier on.
-pub(crate) fn read_suback<'a>(cursor: &mut Cursor<'a>) -> Result<Packet<'a>, ReadError>
-    ensures answer { outcome result ≡ suback_in cursor.old.bytes.now cursor.old.at }
+pub(crate) fn read_suback(mut cursor: Cursor<'_>) -> Result<Packet<'_>, ReadError>
+    ensures answer { outcome result ≡ suback_in cursor.entry.bytes.now cursor.entry.at }
 {
     let id = cursor.identifier()?;
     judge_codes(cursor)?;
@@ -45,8 +47,8 @@ pub(crate) fn read_suback<'a>(cursor: &mut Cursor<'a>) -> Result<Packet<'a>, Rea
 }
 
 // Passes one code to eight, up to the packet's end.
-fn judge_codes(cursor: &Cursor<'_>) -> Result<(), ReadError>
-    ensures answer { passed cursor.now.bytes.now result ≡ some_codes cursor.now.bytes.now cursor.now.at }
+fn judge_codes(cursor: Cursor<'_>) -> Result<(), ReadError>
+    ensures answer { passed cursor.entry.bytes.now result ≡ some_codes cursor.entry.bytes.now cursor.entry.at }
 {
     if cursor.bytes.is_empty() {
         return Err(cursor.missing());

@@ -4,7 +4,7 @@ use Rattle.packets.proofs.Counting.{counting_none, counting_done, counting_end, 
 use Rattle.packets.proofs.filters.count_filters.Goals as goal
 
 pub loop-count-init : goal.loop-count-init
-loop-count-init c = counting_none c.args.with_qos c.args.cursor.now.bytes.now c.args.cursor.now.at
+loop-count-init c = counting_none c.args.with_qos c.args.cursor.bytes.now c.args.cursor.at
 
 pub returns-then-is_empty : goal.returns-then-is_empty
 returns-then-is_empty c = record { answer = counting_done _ _ _ _ _ _ c.loop-count.invariant c.if-is_empty.ensures }

@@ -25,7 +25,7 @@ pub returns-in_err-id : goal.returns-in_err-id
 unfolding publish_in topic_in text_in
 returns-in_err-id c =
     let p = err_from_is_err_and c.from_residual-in_err-id.result c.from_residual-in_err-id.ensures.1 in
-    let flow = c.in_err-id.ensures.answer (leb 8 c.args.flags) c.in_ok-topic.topic.now c.args.cursor.now.at in
+    let flow = c.in_err-id.ensures.answer (leb 8 c.args.flags) c.in_ok-topic.topic.now c.args.cursor.at in
     record {
       answer = rw (p.1, p.2, c.in-Ok.ensures, c.in_ok-topic.ensures.answer, ← c.if-not-is_topic_name.ensures.answer, ← c.in_ok-topic.ensures.place) flow;
     }
@@ -33,7 +33,7 @@ returns-in_err-id c =
 pub returns-then-cursor-gt-MAX_PAYLOAD : goal.returns-then-cursor-gt-MAX_PAYLOAD
 unfolding publish_in topic_in text_in payload_in
 returns-then-cursor-gt-MAX_PAYLOAD c =
-    let flow = c.in_ok-id.ensures.answer (leb 8 c.args.flags) c.in_ok-topic.topic.now c.args.cursor.now.at in
+    let flow = c.in_ok-id.ensures.answer (leb 8 c.args.flags) c.in_ok-topic.topic.now c.args.cursor.at in
     record {
       answer = rw (
         c.in-Ok.ensures,
@@ -49,7 +49,7 @@ returns-then-cursor-gt-MAX_PAYLOAD c =
 pub returns : goal.returns
 unfolding publish_in topic_in text_in payload_in
 returns c =
-    let flow = c.in_ok-id.ensures.answer (leb 8 c.args.flags) c.in_ok-topic.topic.now c.args.cursor.now.at in
+    let flow = c.in_ok-id.ensures.answer (leb 8 c.args.flags) c.in_ok-topic.topic.now c.args.cursor.at in
     record {
       answer = rw (
         c.in-Ok.ensures,
