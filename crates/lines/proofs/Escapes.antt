@@ -4,7 +4,6 @@ use borrow.Author.Tests.{eqb-false}
 use Rattle.std.proofs.ByRecursion.{All-append}
 use Rattle.std.proofs.lemmas.Bool.Decides.{nat_tests}
 use Rattle.std.proofs.lemmas.List.{append-nil, take_all}
-use Rattle.std.proofs.lemmas.Grind.{flat_map-append}
 use Rattle.std.proofs.lemmas.Str.{encode_ascii}
 use Rattle.std.specs.Char.{encode_utf8}
 use Rattle.std.specs.Fmt.{digits, padded_integral, format_spec}
@@ -131,18 +130,6 @@ pub no_bytes : (text bs xs rest : List ℕ) → Bytes bs → Bytes xs → flat_m
 no_bytes text bs xs rest hb hx e some none w =
     let l = left bs xs rest hb hx (w ∙ sym e) in
     begins l.more rest l.bytes l.spelled some none
-
--- one escaped byte more
-pub spelled_more : (xs : List ℕ) (b : ℕ) (rest more text : List ℕ) → escaped_byte b ++ more ≡ rest → flat_map escaped_byte xs ++ rest ≡ text
-    → flat_map escaped_byte (xs ++ b ∷ []) ++ more ≡ text
-spelled_more xs b rest more text e f =
-    ap (λ l. l ++ more) (flat_map-append escaped_byte xs (b ∷ []) ∙ ap (λ l. flat_map escaped_byte xs ++ l) (append-nil (escaped_byte b)))
-    ∙ append_assoc (flat_map escaped_byte xs) (escaped_byte b) more ∙ ap (λ l. flat_map escaped_byte xs ++ l) e ∙ f
-
--- nothing is left
-pub all_spelled : (xs rest text : List ℕ) → length rest ≡ 0 → flat_map escaped_byte xs ++ rest ≡ text → flat_map escaped_byte xs ≡ text
-all_spelled xs [] text h e = sym (append-nil (flat_map escaped_byte xs)) ∙ e
-all_spelled xs (c ∷ rest) text h e = absurd (omega arith)
 
 pub unit_shorter : (b : ℕ) (more rest : List ℕ) → escaped_byte b ++ more ≡ rest → length more < length rest
 unit_shorter b more rest e =

@@ -30,10 +30,6 @@ more_read xs (c ∷ d ∷ rest) a b r h ea eb e =
     ap (λ l. prepend (xs ++ (16 * a + b) ∷ []) (pairs_in l)) (take_all _ rest (omega arith))
     ∙ sym (prepend_byte xs a b (pairs_in rest)) ∙ (λ i. prepend xs (byte_before (ea i) (eb i) (pairs_in rest))) ∙ e
 
-before-none : (h : Option ℕ) (r : Option (List ℕ)) → byte_before h None r ≡ None
-before-none None r = refl
-before-none (Some a) r = refl
-
 glyph_digit : (n : ℕ) → digit_glyph false n ≡ digit n
 glyph_digit n = grind (arith, nat_tests)
 

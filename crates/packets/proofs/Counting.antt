@@ -6,11 +6,7 @@ use Rattle.packets.specs.declared.packet.Filter.{Filter}
 use Rattle.packets.specs.declared.packet.Filters.{Filters}
 use Rattle.packets.specs.declared.packet.ReadError.{ReadError}
 use Rattle.packets.specs.Fields.{onward, ended}
-use Rattle.packets.specs.Filters.{Entry, Found, filter_in, before, filters_in, some_filters, heading, first_filters, entries_of, nth, entry_of, maybe_entry, found}
-
-pub some_filters_full : (g : Bool) (bs : List ℕ) (at : ℕ) → false ≡ eqb (length bs) 0 → filters_in g 8 bs at ≡ some_filters g bs at
-some_filters_full g [] at e = absurd (let z : ◌≡◌ {A = ℕ} 0 1 = cc in omega arith)
-some_filters_full g (b ∷ bs) at e = refl
+use Rattle.packets.specs.Filters.{Entry, Found, filter_in, before, filters_in, heading, first_filters, entries_of, nth, entry_of, maybe_entry, found}
 
 filters_none : (g : Bool) (k : ℕ) (bs : List ℕ) (at : ℕ) → true ≡ eqb (length bs) 0 → Ok [] ≡ filters_in g k bs at
 filters_none g zero [] at e = refl

@@ -1,11 +1,11 @@
 -- Facts on what waits in a ring, for the calls here and for callers.
-use Rattle.std.proofs.Common.{◌≡◌, ℕ, suc, ◌+◌, ◌-◌, ◌%◌, ◌<◌, ◌≤◌, min, List, [], ◌∷◌, ◌++◌, length, get_or, take, drop, set, Some, None, Option, sym, refl, ap, ◌∙◌, ⊎_elim, add-zero, mod-lt, mod-eq_of_lt, arith, length-set, length-take}
+use Rattle.std.proofs.Common.{◌≡◌, ℕ, suc, ◌+◌, ◌-◌, ◌%◌, ◌<◌, ◌≤◌, min, List, [], ◌∷◌, ◌++◌, length, get_or, take, drop, set, sym, refl, ap, ◌∙◌, ⊎_elim, add-zero, mod-lt, mod-eq_of_lt, arith, length-set, length-take}
 use native.Mathlib.Nat.{mod-add-mod, mod_self, mod-mod}
 use lib.Seq.{take-set-lt}
 use Rattle.std.proofs.lemmas.List.{take_more_set, take-append-le, get_or-take, take_all, nil_from_length}
 use Rattle.std.proofs.lemmas.Bool.{cases_lt}
 use Rattle.ring.specs.declared.Ring.{Ring}
-use Rattle.ring.specs.Ring.{round, waiting, place, empty, grown, advanced, Oldest, Got, Taken}
+use Rattle.ring.specs.Ring.{round, waiting, place, empty, grown, advanced, Taken}
 use Rattle.ring.proofs.Round.{length-round, get_or-round, set-round, others, length_others, round_here, round-next, round_last}
 
 pub waiting-empty : {T : Type 0} (xs : List T) → waiting empty xs ≡ []
@@ -111,12 +111,6 @@ module _ {T : Type 0} (r : Ring) (xs : List T) where
         after = head ∙ ap (λ y. y ∷ waiting (advanced n r) xs) is ∙ ap (λ s. x ∷ waiting s xs) (sym moved);
         ring = moved;
       }
-
--- the oldest is the entry with the number 0
-pub oldest_from_got : {T : Type 0} (ws : List T) (o : Option T) → Got ws 0 o → Oldest ws o
-oldest_from_got ws None h = nil_from_length ws (omega arith)
-oldest_from_got [] (Some x) h = absurd (omega arith)
-oldest_from_got (w ∷ ws) (Some x) h = ap (λ y. y ∷ ws) (sym h.1)
 
 -- what the calls cite
 pub ruleset lengths = (waiting-length)
