@@ -60,8 +60,3 @@ put_more h ps i z d e zs end less same p =
       place = ap (λ k. k + length piece) p.place ∙ sym (length-append done piece) ∙ ap length all;
       buffer = ap (λ l. put_mid end (end + length piece - end) l zs) p.buffer ∙ next d done piece zs p.place refl same ∙ ap (λ l. front d l) all;
     }
-
-pub put_all : (h : List ℕ) (ps : List (Bor (List ℕ))) (i : ℕ) (d e : List ℕ) (end : ℕ) → length ps ≤ i → Put h ps i d e end → (end ≡ length (h ++ joined ps)) × (e ≡ front d (h ++ joined ps))
-put_all h ps i d e end whole p =
-    let all : take i ps ≡ ps = take_all i ps whole in
-    (p.place ∙ ap (λ l. length (h ++ joined l)) all, p.buffer ∙ ap (λ l. front d (h ++ joined l)) all)
