@@ -1,11 +1,12 @@
 -- Lemmas for code over any store.
-use Rattle.std.proofs.Common.{◌≡◌, ℕ, ◌<◌, true, ◌⊎◌, List, length, is_ok, Ok, Decides, refl, inl, inr, arith}
-use Rattle.std.proofs.lemmas.Bool.{cases_lt, cases_eq}
+use Rattle.std.proofs.Common.{◌≡◌, ℕ, ◌<◌, ◌≤◌, true, ◌⊎◌, List, length, is_ok, Ok, Err, Decides, Result, refl, ap, inl, inr, arith}
+use Rattle.std.proofs.lemmas.Bool.{cases_lt, cases_eq, lt-ltb, le-leb}
 use Rattle.std.proofs.lemmas.Bool.Decides.{nat_tests}
 use Rattle.store.specs.declared.kind.Kind.{Kind}
 use Rattle.store.specs.declared.kind.Kind.TheVariants.{Session, Message}
+use Rattle.store.specs.declared.kind.Refusal.{Refusal}
 use Rattle.store.specs.Kind.{same_kind}
-use Rattle.store.specs.Disk.{Disk, put_answer, drop_answer}
+use Rattle.store.specs.Disk.{Disk, load_answer, put_answer, drop_answer}
 use Rattle.store.specs.Row.{row_answer, write_answer}
 use Rattle.store.specs.Change.{PutPossible, DropPossible}
 
@@ -59,6 +60,21 @@ drop_since d k n p =
 
 pub drop-done : (d : Disk) (k : Kind) (n : ℕ) → Decides (is_ok (drop_answer d k n)) (DropPossible d k n)
 drop-done d k n = (λ e. record { key = grind (arith, nat_tests); write = drop_write d k n e }, drop_since d k n)
+
+-- what a load of a good key into a long enough buffer answers
+pub load_ok : (d : Disk) (k : Kind) (n : ℕ) (buffer : List ℕ) (len : ℕ) → n < d.limit k → 560 ≤ length buffer → len ≡ length (d.rows k n) → Ok len ≡ load_answer d k n buffer
+load_ok d k n buffer len h l e = simp (lt-ltb n (d.limit k) h, le-leb 560 (length buffer) l) (ap Ok e)
+
+-- what a possible put or drop answers
+ok_is : (r : Result (Unit {0}) Refusal) → is_ok r ≡ true → Ok tt ≡ r
+ok_is (Ok x) e = refl
+ok_is (Err x) e = cc
+
+pub put_ok : (d : Disk) (k : Kind) (n : ℕ) (row : List ℕ) → PutPossible d k n row → Ok tt ≡ put_answer d k n row
+put_ok d k n row p = ok_is (put_answer d k n row) ((put-done d k n row).1 p)
+
+pub drop_ok : (d : Disk) (k : Kind) (n : ℕ) → DropPossible d k n → Ok tt ≡ drop_answer d k n
+drop_ok d k n p = ok_is (drop_answer d k n) ((drop-done d k n).1 p)
 
 -- a row that is put fits into its memory
 pub row_fits : (row : List ℕ) (x : Unit {0}) → Ok x ≡ row_answer row → write_answer row ≡ Ok tt

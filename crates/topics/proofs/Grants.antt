@@ -2,11 +2,22 @@
 use Rattle.std.proofs.Common.{◌≡◌, ℕ, ◌≤◌, Bool, true, false, cond, leb, List, [], ◌∷◌, ◌++◌, Some, None, fold, Option, sym, refl, ap, subst, arith}
 use Rattle.std.proofs.ByRecursion.{All-push, All-weaker, has_append_left, has_push}
 use Rattle.std.proofs.lemmas.List.{append-nil, append_assoc}
+use Rattle.std.proofs.lemmas.List.Sums.{fold_push}
 use Rattle.std.proofs.lemmas.Bool.{leb-true, leb-false, both_ways}
 use Rattle.topics.specs.declared.qos.Qos.{Qos}
 use Rattle.topics.specs.Matching.{takes}
 use Rattle.topics.specs.Qos.{qos_number}
 use Rattle.topics.specs.Subscription.{GrantedLaw, Highest, Subscribed, granted, higher, raised}
+
+-- no subscription grants nothing
+pub granted-none : (t : List ℕ) → granted [] t ≡ None
+unfolding granted
+granted-none t = refl
+
+-- one subscription more is one step more
+pub granted_push : (ss : List Subscribed) (s : Subscribed) (t : List ℕ) → granted (ss ++ s ∷ []) t ≡ raised (granted ss t) s.filter s.qos t
+unfolding granted
+granted_push ss s t = fold_push (λ best x. raised best x.filter x.qos t) None ss s
 
 -- a filter that takes the topic, and one that does not
 pub raised-takes : (best : Option Qos) (f : List ℕ) (q : Qos) (t : List ℕ) → takes f t ≡ true → raised best f q t ≡ higher best q

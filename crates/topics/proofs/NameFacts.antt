@@ -11,10 +11,20 @@ use Rattle.topics.specs.Names.{NamesLaw, is_client_id, is_topic_filter, is_topic
 use Rattle.topics.proofs.Laws.{plain-levels}
 use Rattle.topics.proofs.Texts.{text_utf8}
 
--- what holds of each topic filter
+-- what holds of each topic name
+pub name_parts : (bs : List ℕ) → is_topic_name bs ≡ true → (0 < length bs) × (length bs ≤ 64) × (is_text bs ≡ true) × (plain bs ≡ true)
+unfolding is_topic_name
+name_parts bs e = (grind (arith, nat_tests), grind (arith, nat_tests), grind (arith, nat_tests), grind (arith, nat_tests))
+
+-- of each topic filter
 pub filter_parts : (bs : List ℕ) → is_topic_filter bs ≡ true → (0 < length bs) × (length bs ≤ 64) × (is_text bs ≡ true) × (lawful (levels bs) ≡ true)
 unfolding is_topic_filter
 filter_parts bs e = (grind (arith, nat_tests), grind (arith, nat_tests), grind (arith, nat_tests), grind (arith, nat_tests))
+
+-- of each client identifier
+pub client_parts : (bs : List ℕ) → is_client_id bs ≡ true → (0 < length bs) × (length bs ≤ 23) × (every is_ascii_alphanumeric bs ≡ true)
+unfolding is_client_id
+client_parts bs e = (grind (arith, nat_tests), grind (arith, nat_tests), grind (arith, nat_tests))
 
 alnum_byte : (c : ℕ) → is_ascii_alphanumeric c ≡ true → (0 < c) × (c < 128)
 alnum_byte c e = grind (arith, nat_tests)

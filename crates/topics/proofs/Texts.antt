@@ -27,6 +27,11 @@ pub text_not_utf8 : (bs : List ℕ) → (IsUtf8 bs → ⊥) → false ≡ is_tex
 unfolding is_text
 text_not_utf8 bs n = let e : well_formed bs ≡ true → ⊥ = λ e. n (to_utf8 bs e) in grind arith
 
+-- text is UTF-8
+pub utf8_from_text : (bs : List ℕ) → is_text bs ≡ true → IsUtf8 bs
+unfolding is_text
+utf8_from_text bs e = to_utf8 bs (and_parts (well_formed bs) (every allowed (chars bs)) e).0
+
 pub text_law : TextLaw
 unfolding is_text
 text_law bs = (
