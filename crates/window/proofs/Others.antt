@@ -27,20 +27,24 @@ either_row false false x y e f = refl
 outside_row : (t u : Bool) (x y : List ℕ) → t ≡ false → u ≡ false → cond t [] x ≡ cond u [] y → x ≡ y
 outside_row t u x y p q e = sym (cond-false t [] x p) ∙ e ∙ cond-false u [] y q
 
--- a store that shows the same around a window shows the same in every window apart from it
-module _ {X F : Type 0} (disk : X → Disk) (rest : X → F) (x first : X) (s o : Spans) (r : around (disk x) (rest x) s ≡ around (disk first) (rest first) s) (apart : Apart s o) where
-  same_limits : (k : Kind) → view_limit (disk x) o k ≡ view_limit (disk first) o k
+-- whatever leaves what lies around a window leaves every window apart from it
+module _ {F : Type 0} (d e : Disk) (f g : F) (s o : Spans) (r : around e g s ≡ around d f s) (apart : Apart s o) where
+  same_limits : (k : Kind) → view_limit e o k ≡ view_limit d o k
   same_limits k = ap (λ a. min (width_of o k) (a.limit k - base_of o k)) r
 
-  same_row : (k : Kind) (n : ℕ) → ltb n (view_limit (disk first) o k) ≡ true → (disk x).rows k (base_of o k + n) ≡ (disk first).rows k (base_of o k + n)
+  same_row : (k : Kind) (n : ℕ) → ltb n (view_limit d o k) ≡ true → e.rows k (base_of o k + n) ≡ d.rows k (base_of o k + n)
   same_row k n t =
-      let h : n < width_of o k = omega (arith, ltb-true n (view_limit (disk first) o k) t) in
-      outside_row (covers (disk x) s k (base_of o k + n)) (covers (disk first) s k (base_of o k + n)) ((disk x).rows k (base_of o k + n)) ((disk first).rows k (base_of o k + n)) (uncovered (disk x) s o apart k n h) (uncovered (disk first) s o apart k n h) (ap (λ a. a.outside k (base_of o k + n)) r)
+      let h : n < width_of o k = omega (arith, ltb-true n (view_limit d o k) t) in
+      outside_row (covers e s k (base_of o k + n)) (covers d s k (base_of o k + n)) (e.rows k (base_of o k + n)) (d.rows k (base_of o k + n)) (uncovered e s o apart k n h) (uncovered d s o apart k n h) (ap (λ a. a.outside k (base_of o k + n)) r)
 
-  pub others : Beside (disk first) (disk x) o
+  pub others : Beside d e o
   others = record {
-    rows = λ k n. either_row (ltb n (view_limit (disk x) o k)) (ltb n (view_limit (disk first) o k)) ((disk x).rows k (base_of o k + n)) ((disk first).rows k (base_of o k + n)) (ap (ltb n) (same_limits k)) (same_row k n);
+    rows = λ k n. either_row (ltb n (view_limit e o k)) (ltb n (view_limit d o k)) (e.rows k (base_of o k + n)) (d.rows k (base_of o k + n)) (ap (ltb n) (same_limits k)) (same_row k n);
     limit = same_limits;
     free = refl;
     writes = refl;
   }
+
+-- the same of what a store shows
+pub shown_others : {X F : Type 0} (disk : X → Disk) (rest : X → F) (x first : X) (s o : Spans) → around (disk x) (rest x) s ≡ around (disk first) (rest first) s → Apart s o → Beside (disk first) (disk x) o
+shown_others disk rest x first s o r apart = others (disk first) (disk x) (rest first) (rest x) s o r apart
