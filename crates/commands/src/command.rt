@@ -7,7 +7,7 @@ use lines::words::{is_word, next_word};
 // What a line asks for; words that are parameters are parts of the line.
 #[derive(Clone, Copy)]
 pub enum Command<'a> {
-    // The line has no word.
+    // The line has no word: a command of its own, which prints nothing.
     Nothing,
     Types,
     Dissect { hex: &'a [u8] },

@@ -63,7 +63,7 @@ impl From<u64> for Operation {
 }
 
 impl Operation {
-    // Does it and answers a number: the row's length or the free rows, 0 for done, or 2^32 and the refusal's number.
+    // Does it and answers a number, as C takes it: the row's length or the free rows, 0 for done, or 2^32 and the refusal's number.
     pub fn perform<S: Store>(self, store: &mut S, pool: &[u8], buffer: &mut [u8]) -> u64
         ensures answer { result ≡ reply (S.Store.disk store.old) pool.now buffer.old self }
         ensures after { S.Store.disk store.new ≡ disk_after (S.Store.disk store.old) pool.now self }

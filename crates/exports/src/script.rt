@@ -118,7 +118,7 @@ pub extern "C" fn merukpa_table(
     code_of(run_on_new::<Table>(heap, rows, script, pool, buffer, answers))
 }
 
-// The same on a new journal.
+// The same on a new journal. Two exported names, since C has no type parameters.
 #[unsafe(no_mangle)]
 pub extern "C" fn merukpa_journal(
     heap: Global,

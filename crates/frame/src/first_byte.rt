@@ -66,7 +66,7 @@ const TYPE_BY_FIRST_BYTE: [u8; 256] = [
     0, 0, 0,
 ];
 
-// The number of the packet type that a first byte announces, or 0. Nothing else reads the table.
+// The number of the packet type that a first byte announces, or 0, as the table of numbers has it, which nothing else reads.
 pub fn type_number(first: u8) -> u8
     ensures answer { result ≡ type_number first }
 {

@@ -30,7 +30,7 @@ pub fn next_word(line: &[u8]) -> (&[u8], &[u8])
     line.split_at(word_length(line))
 }
 
-// Is the word this name?
+// Is the word this name? Beside `==`, as its clause says it in the words of the commands' definitions.
 pub fn is_word(word: &[u8], name: &[u8]) -> bool
     ensures answer { result ≡ bytes_eq word.now name.now }
 {

@@ -108,6 +108,7 @@ impl<'a> Targets<'a> {
     }
 }
 
+// As frame reads two bytes: each is two lines on the library's generic `split_first_chunk`.
 fn read_number(bytes: &[u8]) -> Option<(u32, &[u8])>
     ensures answer { with_rest result ≡ number_in bytes.now }
     ensures bound { IfSome result (λ p. p.0 < 2 ^ 32) }

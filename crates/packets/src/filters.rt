@@ -41,6 +41,7 @@ fn read_filter<'a>(with_qos: bool, cursor: &mut Cursor<'a>) -> Result<Filter<'a>
         });
     }
     let qos_at = cursor.at;
+    // No `?`: the refusal is told as a field with its place.
     let Ok(qos) = Qos::try_from(cursor.byte()?) else {
         return Err(bad(Field::QosOrCode, qos_at));
     };

@@ -14,6 +14,7 @@ use topics::qos::Qos;
 pub(crate) fn read_publish(flags: u8, mut cursor: Cursor<'_>) -> Result<Packet<'_>, ReadError>
     ensures answer { outcome result ≡ publish_in flags cursor.entry.bytes.now cursor.entry.at }
 {
+    // No `?`: the refusal is told as a field with its place.
     let Ok(qos) = Qos::try_from(flags / 2 % 4) else {
         return Err(bad(Field::FirstByte, 0));
     };

@@ -53,6 +53,7 @@ fn judge_codes(cursor: Cursor<'_>) -> Result<(), ReadError>
     if cursor.bytes.is_empty() {
         return Err(cursor.missing());
     }
+    // By index: a refused code is told with its place.
     for (i, code) in cursor.bytes.iter().enumerate() {
         if i == MAX_FILTERS {
             return Err(bad(Field::End, cursor.at + i));

@@ -20,7 +20,7 @@ pub enum BaseName {
 // What a line asks for.
 #[derive(Clone, Copy)]
 pub enum Command<'a> {
-    // The line has no word.
+    // The line has no word: a command of its own, which prints nothing.
     Nothing,
     Store { base: BaseName, rows: u32 },
     Window { spans: Spans },

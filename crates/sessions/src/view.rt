@@ -102,7 +102,7 @@ impl<'a> Filters<'a> {
         if i == 0 { Some(first) } else { rest.get(i - 1) }
     }
 
-    // The first subscription and those after it.
+    // The first subscription and those after it. The recursions go by it, as on a slice: an iterator would state six ghost members for them.
     fn split_first(&self) -> Option<(Subscription<'a>, Filters<'a>)>
         ensures front { MatchOption result (Ends self.now) (λ p. Begins self.now (subscribed p.0) p.1) }
         ensures listed { MatchOption result (filters_of self.now ≡ []) (λ p. filters_of self.now ≡ subscribed p.0 ∷ filters_of p.1) }

@@ -42,6 +42,7 @@ pub fn apply_through<S: Store>(
     ensures beside { (other : AnySpans) → Apart spans other → Beside (S.Store.disk store.old) (S.Store.disk store.new) other }
     ensures rest { around (S.Store.disk store.new) (S.Store.rest store.new) spans ≡ around (S.Store.disk store.old) (S.Store.rest store.old) spans }
 {
+    // No `?`: nothing is known of a lent store that goes into an error by it.
     let Ok(mut window) = Window::new(store, spans) else {
         return Err(ThroughError::Beyond);
     };
