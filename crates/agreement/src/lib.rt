@@ -55,7 +55,8 @@ impl Call {
 
 /// Makes the calls in order, refused ones too, and answers one number or refusal each. Want of memory for the answers
 /// comes before the first call.
-// Apart from `store::change::apply`, as a call may also read, and answers a number.
+// Apart from `store::change::apply`: a loop of three lines is all that they share, and one for both would take a trait
+// with the answer, the disk and the rest after as laws.
 pub fn run<S: Store>(heap: Global, store: &mut S, calls: &[Call]) -> Result<Vec<Answer>, AllocError>
     ensures answer { IfOk result (λ v. v.items ≡ answers (S.Store.disk store.old) calls.now) }
     ensures after { S.Store.disk store.new ≡ ran_after result (S.Store.disk store.old) calls.now }

@@ -69,6 +69,7 @@ fn judge(filter: &[u8], topic: &[u8]) -> &'static str
     }
 }
 
+// Heap and line stay two: a struct of them would be made in `answer` and taken apart in each function.
 fn not_understood(heap: Global, line: &[u8]) -> Result<String, AllocError>
     ensures answer { IfOk result (λ text. string_bytes text ≡ not_understood line.now) }
 {

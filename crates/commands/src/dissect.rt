@@ -154,7 +154,7 @@ impl fmt::Display for Told<'_> {
     }
 }
 
-// Codes that are shown one after the other.
+// Codes that are shown one after the other, by a `for` as in `lines::hex::Hex`.
 #[derive(Clone, Copy)]
 struct Codes<'a>(&'a [u8]);
 

@@ -5,9 +5,7 @@ use Rattle.std.specs.declared.alloc.Global.{Global}
 use Rattle.store.specs.Disk.{Disk}
 use Rattle.store.specs.Making.{empty_disk}
 use Rattle.store.specs.declared.making.MakeError.{MakeError}
-use Rattle.store.specs.declared.making.MakeError.TheVariants.{Bad as TooMany, NoMemory as NoRoom}
-use Rattle.exports.specs.declared.script.RunError.{RunError}
-use Rattle.exports.specs.declared.script.RunError.TheVariants.{Bad, NoMemory}
+use Rattle.store.specs.declared.making.MakeError.TheVariants.{Bad, NoMemory}
 use Rattle.exports.specs.Operation.{operation_in, reply, disk_after, buffer_after}
 
 -- what each operation answers on the disk and the buffer that those before it left
@@ -26,15 +24,10 @@ abbrev pub buffer_once_run : Result (Vec ℕ Global) AllocError → Disk → Lis
 buffer_once_run r d pool b ws = cond (is_ok r) (last_buffer d pool b ws) b
 
 -- the number that tells how a script ended: 0 for performed, 1 for bad, 2 for no memory
-abbrev pub code_of : Result (Unit {0}) RunError → ℕ
+abbrev pub code_of : Result (Unit {0}) MakeError → ℕ
 code_of (Ok u) = 0
 code_of (Err Bad) = 1
 code_of (Err NoMemory) = 2
-
--- why no script was performed, where no store was made
-abbrev pub not_made : MakeError → RunError
-not_made TooMany = Bad
-not_made NoRoom = NoMemory
 
 -- buffer and answers before (b, as) and after (b', as') a script on a disk, by the number that came: all performed, too few places, no memory
 abbrev pub RanOn : Disk → List ℕ → List ℕ → List ℕ → List ℕ → ℕ → List ℕ → List ℕ → Type 0

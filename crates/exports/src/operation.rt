@@ -28,7 +28,7 @@ pub enum Operation {
     Free,
 }
 
-// The kind in bits 8 to 15: 0 for sessions, any other for messages.
+// The kind in bits 8 to 15: 0 for sessions, any other for messages. By hand, as any other number is a kind here alone.
 fn kind_in(word: u64) -> Kind
     ensures answer { result ≡ kind_in word }
 {
@@ -40,7 +40,7 @@ fn kind_in(word: u64) -> Kind
 }
 
 // Bits 0 to 7 are 0 for put, 1 for drop, 2 for load, 3 for power, any other for free; then the kind;
-// then the row's number or the writes left, the start and the length of the row in 16 bits each.
+// then the row's number or the writes left, the start and the length of the row in 16 bits each. C hands it so.
 impl From<u64> for Operation {
     ghost from_gives = { λ word operation. operation ≡ operation_in word };
 
@@ -110,7 +110,7 @@ fn row_in(pool: &[u8], start: usize, length: usize) -> &[u8]
         .unwrap_or(&[])
 }
 
-// 2^32 and the refusal's number.
+// 2^32 and the refusal's number, which the C interface alone has.
 fn refusal_number(refusal: Refusal) -> u64
     ensures answer { result ≡ refusal_number refusal }
 {

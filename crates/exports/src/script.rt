@@ -1,7 +1,6 @@
 // Operations on a store one after another, for a caller in another language.
 ghost use Rattle.std.specs.Prelude.{◌≡◌, length, IfOk, vec_len};
-ghost use Rattle.exports.specs.declared.script.RunError.TheVariants.{NoMemory};
-ghost use Rattle.exports.specs.Script.{replies, buffer_once_run, code_of, not_made, Ran, RanOn};
+ghost use Rattle.exports.specs.Script.{replies, buffer_once_run, code_of, Ran, RanOn};
 
 use crate::operation::Operation;
 use journal::Journal;
@@ -11,8 +10,8 @@ use store::making::{Made, MakeError};
 use table::Table;
 
 // Performs the operations in order and answers one number each. Want of memory comes before the first.
-// Apart from `store::change::apply`, as an operation also reads a pool and writes a buffer. Heap and slices go on one by
-// one: C hands them so.
+// Apart from `store::change::apply`: a loop of three lines is all that they share, and one for both would take a trait
+// with the answer, the disk and the buffer after as laws. Heap and slices go on one by one: C hands them so.
 fn run<S: Store>(
     heap: Global,
     store: &mut S,
@@ -31,33 +30,6 @@ fn run<S: Store>(
     Ok(answers)
 }
 
-// Why nothing was performed.
-#[derive(Clone, Copy, PartialEq, Eq, Debug)]
-pub enum RunError {
-    // More than 1,152 rows, or fewer answers than operations.
-    Bad = 1,
-    NoMemory = 2,
-}
-
-impl From<AllocError> for RunError {
-    ghost from_gives = { λ _ e. e ≡ NoMemory };
-
-    fn from(_none: AllocError) -> RunError {
-        RunError::NoMemory
-    }
-}
-
-impl From<MakeError> for RunError {
-    ghost from_gives = { λ made e. e ≡ not_made made };
-
-    fn from(error: MakeError) -> RunError {
-        match error {
-            MakeError::Bad => RunError::Bad,
-            MakeError::NoMemory => RunError::NoMemory,
-        }
-    }
-}
-
 // Puts the answers at the start of the caller's; fewer places than operations are bad.
 fn run_into<S: Store>(
     heap: Global,
@@ -66,11 +38,11 @@ fn run_into<S: Store>(
     pool: &[u8],
     buffer: &mut [u8],
     answers: &mut [u64],
-) -> Result<(), RunError>
+) -> Result<(), MakeError>
     ensures answer { RanOn (S.Store.disk store.old) script.now pool.now buffer.old answers.old (code_of result) buffer.new answers.new }
 {
     if answers.len() < script.len() {
-        return Err(RunError::Bad);
+        return Err(MakeError::Bad);
     }
     let replies = run(heap, store, script, pool, buffer)?;
     answers[0..replies.len()].copy_from_slice(replies.as_slice());
@@ -85,7 +57,7 @@ fn run_on_new<S: Made + Drop>(
     pool: &[u8],
     buffer: &mut [u8],
     answers: &mut [u64],
-) -> Result<(), RunError>
+) -> Result<(), MakeError>
     ensures answer { Ran rows script.now pool.now buffer.old answers.old (code_of result) buffer.new answers.new }
 {
     let mut store = S::new(heap, rows)?;
@@ -93,12 +65,13 @@ fn run_on_new<S: Made + Drop>(
 }
 
 // 0 where all was performed, else the error's number.
-fn code_of(run: Result<(), RunError>) -> u32
+fn code_of(run: Result<(), MakeError>) -> u32
     ensures answer { result ≡ code_of run }
 {
     match run {
         Ok(()) => 0,
-        Err(error) => error as u32,
+        Err(MakeError::Bad) => 1,
+        Err(MakeError::NoMemory) => 2,
     }
 }
 

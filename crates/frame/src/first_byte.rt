@@ -32,6 +32,7 @@ impl TryFrom<u8> for PacketType {
 
     ghost try_from_gives = { Decodes };
 
+    // A match from each number to its name: nothing derives it.
     fn try_from(number: u8) -> Result<PacketType, UnknownType> {
         match number {
             1 => Ok(PacketType::Connect),
@@ -88,7 +89,7 @@ impl PacketType {
         self as u8
     }
 
-    // The type's name as the standard writes it.
+    // The type's name as the standard writes it. A match from each type to its text: nothing derives it.
     pub fn name(self) -> &'static str
         ensures answer { result.now ≡ name_of self }
     {

@@ -34,6 +34,7 @@ impl Journal {
     }
 }
 
+// The clauses `changes` and `places` stand at each call that alters, since callers are promised them.
 impl Store for Journal {
     ghost disk = { journal_disk };
 

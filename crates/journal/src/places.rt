@@ -28,7 +28,8 @@ impl Places {
         Ok(Places { entries, index })
     }
 
-    // Puts the change into this place and tells the index: a drop leaves nothing to find.
+    // Puts the change into this place and tells the index: a drop leaves nothing to find. This call and the next two each say that as
+    // many places stand as before: an invariant speaks of one moment only.
     pub(crate) fn write(&mut self, at: usize, key: Key, row: &[u8])
         requires place { at < vec_len self.old.entries }
         requires short { length row.now ≤ 560 }

@@ -20,7 +20,7 @@ impl From<AllocError> for LineError {
     }
 }
 
-// Beside the one above, since a `?` converts once: the error of a `push` is no `AllocError` yet.
+// Beside the one above, for a caller that pushes: a `?` converts once, and the error of a push is no `AllocError` yet.
 impl<T: Drop> From<AllocFailed<T>> for LineError {
     ghost from_gives = { λ _ r. r ≡ Memory };
 

@@ -21,7 +21,8 @@ fn word_length(line: &[u8]) -> usize
     blank.unwrap_or(line.len())
 }
 
-// The first word of a line, empty where there is none, and what follows it.
+// The first word of a line, empty where there is none, and what follows it. No Option: a word is never empty, and readers
+// ask by `[]` how many there are.
 pub fn next_word(line: &[u8]) -> (&[u8], &[u8])
     ensures word { result.0.now ≡ word_in (skip_blanks line.now) }
     ensures after { result.1.now ≡ after_word (skip_blanks line.now) }

@@ -10,6 +10,7 @@ impl TryFrom<u8> for State {
 
     ghost try_from_gives = { DecodesState };
 
+    // A match from each number to its name: nothing derives it.
     fn try_from(n: u8) -> Result<State, UnknownState> {
         match n {
             1 => Ok(State::Waiting),

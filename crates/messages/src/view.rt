@@ -14,6 +14,7 @@ use topics::names::is_topic_name;
 pub const SESSIONS: u8 = 32;
 
 /// The most bytes that a payload has.
+// The packets' MAX_PAYLOAD again: for this one number rows would stand on packets.
 pub const MAX_PAYLOAD: usize = 256;
 
 // Stands in a row in place of a session where there is no origin.
@@ -84,6 +85,7 @@ impl<'a> Targets<'a> {
     }
 
     // What the first session is owed, and the targets of those after it; none where the first target's byte is against the layout.
+    // Two Options, as in `origin_of`: the outer one refuses, and the inner one is a session that is owed nothing.
     fn split_first(&self) -> Option<(Option<Target>, Targets<'a>)>
         ensures read { MatchOption result ((n : ℕ) → targets_in (suc n) self.now.map self.now.tail.now ≡ None) (λ p. (n : ℕ) → targets_in (suc n) self.now.map self.now.tail.now ≡ add_front p.0 (targets_in n p.1.map p.1.tail.now)) }
         ensures owed { MatchOption result ((n s : ℕ) → slice_index_or (owed (suc n) self.now.map self.now.tail.now) s None ≡ None) (λ p. (n : ℕ) → owed (suc n) self.now.map self.now.tail.now ≡ p.0 ∷ owed n p.1.map p.1.tail.now) }

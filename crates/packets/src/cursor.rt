@@ -1,11 +1,13 @@
 // What is left of a packet while it is read, and the steps that several packets share.
-ghost use Rattle.std.specs.Prelude.{◌≡◌, ◌+◌, ◌^◌, ◌<◌, ◌≤◌, length, MatchOption, IfOk, OnOk};
+ghost use Rattle.std.specs.Prelude.{◌≡◌, ◌+◌, ◌^◌, ◌<◌, ◌≤◌, length, MatchOption, IfOk, OnOk, Some, None, MatchResult};
+ghost use Rattle.topics.specs.Qos.{qos_of};
 ghost use Rattle.frame.specs.Number.{number_in};
 ghost use Rattle.packets.specs.Fields.{Finds, Takes, bad_at, byte_in, lent, cut, ended, identifier_in, length_prefixed, only_identifier, past};
 
 use crate::packet::ReadError;
 use frame::field::{BadField, Field};
 use frame::number::read_number;
+use topics::qos::Qos;
 
 // The bytes not yet read, and the place of the first of them.
 #[derive(Clone, Copy)]
@@ -20,6 +22,13 @@ pub(crate) fn bad(field: Field, place: usize) -> ReadError
     ensures answer { result ≡ bad_at field place }
 {
     ReadError::Bad(BadField { field, place })
+}
+
+// The quality of service with a number, or the field at this place is bad.
+pub(crate) fn read_qos(number: u8, field: Field, place: usize) -> Result<Qos, ReadError>
+    ensures answer { MatchResult result (λ qos. qos_of number ≡ Some qos) (λ e. (qos_of number ≡ None) × (e ≡ bad_at field place)) }
+{
+    Qos::try_from(number).map_err(|_| bad(field, place))
 }
 
 impl<'a> Cursor<'a> {
@@ -49,7 +58,7 @@ impl<'a> Cursor<'a> {
         }
     }
 
-    // Takes the next byte.
+    // Takes the next byte. Apart from `number` and `take`: a step for all three would have to be told how far to go on.
     pub(crate) fn byte(&mut self) -> Result<u8, ReadError>
         ensures answer { Takes (byte_in self.old.bytes.now) self.old.bytes.now self.old.at self.new.bytes.now result }
         ensures place { OnOk result (self.new.at ≡ self.old.at + 1) }

@@ -2,11 +2,10 @@
 ghost use Rattle.std.specs.Prelude.{◌≡◌};
 ghost use Rattle.packets.specs.Filters.{counted, entries_of, filter_in, filters_in, found, maybe_entry, nth, some_filters, told};
 
-use crate::cursor::{Cursor, bad};
+use crate::cursor::{Cursor, bad, read_qos};
 use crate::packet::{Filter, Filters, MAX_FILTERS, ReadError};
 use frame::field::Field;
 use topics::names::is_topic_filter;
-use topics::qos::Qos;
 
 impl<'a> Filters<'a> {
     /// The filter with this index, counted from 0, or none from the count on.
@@ -41,10 +40,8 @@ fn read_filter<'a>(with_qos: bool, cursor: &mut Cursor<'a>) -> Result<Filter<'a>
         });
     }
     let qos_at = cursor.at;
-    // No `?`: the refusal is told as a field with its place.
-    let Ok(qos) = Qos::try_from(cursor.byte()?) else {
-        return Err(bad(Field::QosOrCode, qos_at));
-    };
+    let number = cursor.byte()?;
+    let qos = read_qos(number, Field::QosOrCode, qos_at)?;
     Ok(Filter {
         bytes,
         place,
@@ -70,7 +67,7 @@ pub(crate) fn read_filters(with_qos: bool, cursor: Cursor<'_>) -> Result<Filters
     })
 }
 
-// How many filters there are up to the packet's end, at most eight.
+// How many filters there are up to the packet's end, at most eight. Counted: the count is the answer.
 fn count_filters(with_qos: bool, mut cursor: Cursor<'_>) -> Result<usize, ReadError>
     ensures answer { counted with_qos cursor.entry.bytes.now cursor.entry.at result ≡ filters_in with_qos 8 cursor.entry.bytes.now cursor.entry.at }
 {

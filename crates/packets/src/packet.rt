@@ -25,6 +25,7 @@ pub enum Packet<'a> {
         client: &'a [u8],
         client_at: usize,
     },
+    // A code stays a number here and in a SUBACK: a writer may be given any, and refuses those that are none.
     ConnAck {
         session_present: bool,
         code: u8,
@@ -72,6 +73,7 @@ pub enum Packet<'a> {
 
 /// The filters of a SUBSCRIBE (each with a QoS byte) or an UNSUBSCRIBE (without): the part of the packet
 /// that they stand in, the place of that part, and how many they are.
+// A part and a count, told one by one by `get`: reading allocates nothing.
 #[derive(Clone, Copy)]
 pub struct Filters<'a> {
     pub part: &'a [u8],

@@ -4,7 +4,7 @@ ghost use Rattle.packets.specs.Fields.{onward};
 ghost use Rattle.packets.specs.Packet.{outcome};
 ghost use Rattle.packets.specs.Reads.{after_topic, payload_in, publish_in};
 
-use crate::cursor::{Cursor, bad};
+use crate::cursor::{Cursor, bad, read_qos};
 use crate::packet::{MAX_PAYLOAD, Packet, ReadError};
 use frame::field::Field;
 use topics::names::is_topic_name;
@@ -14,10 +14,7 @@ use topics::qos::Qos;
 pub(crate) fn read_publish(flags: u8, mut cursor: Cursor<'_>) -> Result<Packet<'_>, ReadError>
     ensures answer { outcome result ≡ publish_in flags cursor.entry.bytes.now cursor.entry.at }
 {
-    // No `?`: the refusal is told as a field with its place.
-    let Ok(qos) = Qos::try_from(flags / 2 % 4) else {
-        return Err(bad(Field::FirstByte, 0));
-    };
+    let qos = read_qos(flags / 2 % 4, Field::FirstByte, 0)?;
     let topic_at = cursor.at;
     let topic = cursor.text()?;
     if !is_topic_name(topic) {

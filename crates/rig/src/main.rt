@@ -27,7 +27,7 @@ fn run(rt: &HostRuntime) -> anyhow::Result<()> {
     Ok(())
 }
 
-// Answers each line of standard input, and says whether there was any.
+// Answers each line of standard input, and says whether there was any. Apart from the service tool's, as the store is handed on.
 fn answer_input(rt: &HostRuntime) -> anyhow::Result<bool> {
     let heap: Global = rt.alloc();
     let mut pile: Option<Pile> = None;

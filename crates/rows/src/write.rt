@@ -19,6 +19,7 @@ pub fn write_all(pieces: &[&[u8]], out: &mut [u8]) -> Result<usize, Unwritten>
     ensures buffer { Written (Ok (pieced pieces.now)) result out.old out.new }
 {
     check_room(pieces, out.len())?;
+    // A running end: each piece goes behind the one before. The writer of packets has such a loop too (crate writer).
     let mut end = 0;
     for piece in pieces {
         let start = end;

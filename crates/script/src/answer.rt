@@ -148,7 +148,8 @@ impl Turn {
     }
 }
 
-// `? ` and the line as escaped text; what stood before stands.
+// `? ` and the line as escaped text; what stood before stands. One `format!` is all that the technician's tool shares with it. Heap, pile and
+// line stay apart: a struct of them would be taken apart in each function.
 fn not_understood(heap: Global, pile: Option<Pile>, line: &[u8]) -> Result<Turn, AllocError>
     ensures answer { IfOk result (λ t. NotUnderstood pile line.now t) }
 {

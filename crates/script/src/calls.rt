@@ -1,4 +1,4 @@
-// Calls on any store, each with the line that tells what it answered.
+// Calls on any store, each with the line that tells what it answered. A kind and a number stay two plain values, as in `store`.
 ghost use Rattle.std.specs.Prelude.{◌≡◌, IfOk, string_bytes};
 ghost use Rattle.store.specs.Disk.{put_answer, put_after, drop_answer, drop_after};
 ghost use Rattle.script.specs.Texts.{row_word, loaded_text, load_text, put_text, drop_text, free_text, limit_text};

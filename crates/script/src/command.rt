@@ -27,7 +27,8 @@ pub enum Command<'a> {
     Call(Call<'a>),
 }
 
-// A call on the store that stands; a row in hexadecimal is a part of the line.
+// A call on the store that stands; a row in hexadecimal is a part of the line. Apart from `agreement::Call`, whose row is a Vec: one enum
+// would take the row's type as a parameter, and what is done with a call is not shared.
 #[derive(Clone, Copy)]
 pub enum Call<'a> {
     Load {
@@ -52,7 +53,7 @@ pub enum Call<'a> {
     },
 }
 
-// The line is no command.
+// The line is no command. Apart from the technician's tool's, as the `?`s here take `From`s of its own.
 #[derive(Clone, Copy, PartialEq, Eq, Debug)]
 pub struct UnknownCommand;
 
@@ -140,6 +141,7 @@ fn with_two<'a>(
     }
 }
 
+// No TryFrom: the error speaks of a line.
 fn base_of(what: &[u8]) -> Result<BaseName, UnknownCommand>
     ensures answer { result_ok result ≡ base_in what.now }
 {

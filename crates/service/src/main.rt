@@ -44,7 +44,7 @@ fn command_line(rt: &HostRuntime) -> anyhow::Result<String> {
 }
 
 // Answers each line of standard input, and says whether there was any. By bytes and not by `rt.lines`, which stops at
-// the first line that is no UTF-8.
+// the first line that is no UTF-8. Apart from the rig's, which hands its store on from line to line.
 fn answer_input(rt: &HostRuntime) -> anyhow::Result<bool> {
     let heap: Global = rt.alloc();
     let mut any = false;

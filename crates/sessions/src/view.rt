@@ -14,10 +14,12 @@ use topics::qos::Qos;
 use topics::subscription::Subscription;
 
 /// The most filters that a session has.
+// The packets' MAX_FILTERS again, as a row's byte: for this one number rows would stand on packets.
 pub const MAX_FILTERS: u8 = 8;
 
 /// The filters of a session row as one part of it and their number.
-// No invariant says that they are whole: reading tells that of filters that are not yet known to be.
+// The row's own count and what follows it: reading allocates nothing. No invariant says that they are whole: reading tells that of
+// filters that are not yet known to be.
 #[derive(Clone, Copy)]
 pub struct Filters<'a> {
     count: u8,

@@ -17,6 +17,7 @@ impl TryFrom<u8> for Kind {
 
     ghost try_from_gives = { Decodes };
 
+    // A match from each number to its name: nothing derives it.
     fn try_from(number: u8) -> Result<Kind, UnknownKind> {
         match number {
             0 => Ok(Kind::Session),

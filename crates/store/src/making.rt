@@ -31,7 +31,7 @@ impl From<AllocError> for MakeError {
 }
 
 impl Kind {
-    // Numbers of this kind lie below this limit in a store made here.
+    // Numbers of this kind lie below this limit in a store made here. A match from each kind to its limit: nothing derives it.
     pub fn made_limit(self) -> u32
         ensures answer { result ≡ made_limit self }
     {

@@ -38,7 +38,7 @@ alnum_allowed : (bs : List ℕ) → every is_ascii_alphanumeric bs ≡ true → 
 alnum_allowed [] e = refl
 alnum_allowed (b ∷ bs) e = grind (arith, nat_tests, alnum_byte b, alnum_allowed bs)
 
-client_text : (bs : List ℕ) → is_client_id bs ≡ true → is_text bs ≡ true
+pub client_text : (bs : List ℕ) → is_client_id bs ≡ true → is_text bs ≡ true
 unfolding is_client_id
 client_text bs e =
     let alnum = (and_parts (sized max_client_id bs) (every is_ascii_alphanumeric bs) e).1 in
@@ -49,7 +49,7 @@ plain-lawful : (ls : List (List ℕ)) → AllByRecursion (λ l. plain l ≡ true
 plain-lawful [] h = refl
 plain-lawful (l ∷ ls) h = let first = h.0 in grind (arith, plain-lawful ls h.1)
 
-name_filter : (bs : List ℕ) → is_topic_name bs ≡ true → is_topic_filter bs ≡ true
+pub name_filter : (bs : List ℕ) → is_topic_name bs ≡ true → is_topic_filter bs ≡ true
 unfolding is_topic_name is_topic_filter
 name_filter bs e =
     let p = and_parts (sized max_topic bs && is_text bs) (plain bs) e in

@@ -22,7 +22,7 @@ pub fn matches(filter: &[u8], topic: &[u8]) -> bool
     takes_from(filter, topic, true)
 }
 
-// A level starts here in both, or one goes on that agrees so far.
+// A level starts here in both, or one goes on that agrees so far. Recursion and slice patterns, as the rule for matching asks.
 #[tactic(auto, using(crate::proofs::Steps::steps))]
 fn takes_from(filter: &[u8], topic: &[u8], start: bool) -> bool
     ensures answer { result ≡ takes_from start (levels filter.now) (levels topic.now) }

@@ -19,6 +19,7 @@ impl TryFrom<u8> for Qos {
 
     ghost try_from_gives = { Decodes };
 
+    // A match from each number to its name: nothing derives it.
     fn try_from(n: u8) -> Result<Qos, UnknownQos> {
         match n {
             0 => Ok(Qos::AtMostOnce),

@@ -30,7 +30,7 @@ pub struct Beyond<S> {
 }
 
 impl<S> Beyond<S> {
-    // The refusal's number, 13. A number: docs/store.md numbers this refusal, and callers print it.
+    // The refusal's number, 13. A number: docs/store.md numbers this refusal, and the promise is public.
     pub fn number(&self) -> u8
         ensures answer { result ≡ refusal_number self.now }
     {

@@ -152,7 +152,8 @@ fn write_empty(packet_type: PacketType, out: &mut [u8]) -> Result<usize, WriteEr
     image.write_to(true, out)
 }
 
-// A SUBSCRIBE, whose filters are graded, or an UNSUBSCRIBE: the filters of the part are copied.
+// A SUBSCRIBE, whose filters are graded, or an UNSUBSCRIBE: the filters of the part are copied. The flag says which of the two is
+// written; the filters carry their own, and the two are compared.
 fn write_filters(
     graded: bool,
     id: u16,

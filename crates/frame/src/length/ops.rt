@@ -5,7 +5,7 @@ ghost use Rattle.frame.specs.Length.{length_in, LengthLaw, Writes, written};
 use crate::length::LengthBytes;
 
 // The number at the front of the bytes and how many bytes it took, in whichever form of one to four bytes;
-// none where it is missing, unfinished or longer than four bytes.
+// none where it is missing, unfinished or longer than four bytes. A pair, as the rule for the length's reader asks.
 pub fn read_length(bytes: &[u8]) -> Option<(u32, usize)>
     ensures answer { result ≡ length_in bytes.now }
     ensures bound { IfSome result (λ p. (p.0 < 2 ^ 28) × (p.1 ≤ 4) × (p.1 ≤ len bytes.now)) }

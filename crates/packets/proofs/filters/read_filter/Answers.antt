@@ -19,26 +19,30 @@ unfolding filter_in text_in
 returns-then-not-with_qos c =
     record { answer = rw (c.in_ok-bytes.ensures.answer, ← c.if-not-is_topic_filter.ensures.answer, c.if-not-with_qos.true, c.in_ok-bytes.ensures.place) }
 
-pub returns-in_err-byte : goal.returns-in_err-byte
+pub returns-in_err-number : goal.returns-in_err-number
 unfolding filter_in text_in
-returns-in_err-byte c =
-    let p = err_from_is_err_and c.from_residual-in_err-byte.result c.from_residual-in_err-byte.ensures.1 in
-    let e = c.in_err-byte.ensures.answer in
+returns-in_err-number c =
+    let p = err_from_is_err_and c.from_residual-in_err-number.result c.from_residual-in_err-number.ensures.1 in
+    let e = c.in_err-number.ensures.answer in
     record {
       answer = rw (p.1, p.2, c.in_ok-bytes.ensures.answer, ← c.if-not-is_topic_filter.ensures.answer, c.if-not-with_qos.false, e.0, e.1, c.in_ok-bytes.ensures.place);
     }
 
-pub returns-in_default : goal.returns-in_default
+pub returns-in_err-qos : goal.returns-in_err-qos
 unfolding filter_in text_in
-returns-in_default c =
+returns-in_err-qos c =
+    let p = err_from_is_err_and c.from_residual-in_err-qos.result c.from_residual-in_err-qos.ensures.1 in
+    let e = c.in_err-qos.ensures.answer in
     record {
       answer = rw (
+        p.1,
+        p.2,
         c.in_ok-bytes.ensures.answer,
         ← c.if-not-is_topic_filter.ensures.answer,
         c.if-not-with_qos.false,
-        c.in_ok-byte.ensures.answer,
-        c.in_default.ensures.0,
-        c.bad-in_default.ensures.answer,
+        c.in_ok-number.ensures.answer,
+        e.0,
+        e.1,
         c.in_ok-bytes.ensures.place,
       );
     }
@@ -51,9 +55,9 @@ returns c =
         c.in_ok-bytes.ensures.answer,
         ← c.if-not-is_topic_filter.ensures.answer,
         c.if-not-with_qos.false,
-        c.in_ok-byte.ensures.answer,
-        c.in-Ok.ensures,
-        c.in_ok-byte.ensures.place,
+        c.in_ok-number.ensures.answer,
+        c.in_ok-qos.ensures.answer,
+        c.in_ok-number.ensures.place,
         c.in_ok-bytes.ensures.place,
       );
     }
