@@ -24,6 +24,7 @@ pub enum PacketType {
 }
 
 // A number that no packet type has.
+// A type of its own, as each enum has: the crates don't stand on one another, and an error tells what had no such number.
 #[derive(Clone, Copy, PartialEq, Eq, Debug)]
 pub struct UnknownType(pub u8);
 

@@ -10,6 +10,7 @@ pub enum State {
 }
 
 /// A number that no state has.
+// A type of its own, as each enum has: the crates don't stand on one another, and an error tells what had no such number.
 #[derive(Clone, Copy, Debug, PartialEq, Eq)]
 pub struct UnknownState(pub u8);
 

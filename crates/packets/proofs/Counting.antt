@@ -32,9 +32,6 @@ pub record Counting (g : Bool) (bs : List ℕ) (at n : ℕ) (rest : List ℕ) (n
   pub more : (m : ℕ) → Ok (first_filters g m rest next) ≡ filters_in g (8 - n) rest next → Ok (first_filters g (n + m) bs at) ≡ filters_in g 8 bs at
   pub stop : (e : ReadError) → Err e ≡ filters_in g (8 - n) rest next → Err e ≡ filters_in g 8 bs at
 
-pub counting_none : (g : Bool) (bs : List ℕ) (at : ℕ) → Counting g bs at 0 bs at
-counting_none g bs at = record { few = omega arith; more = λ m h. let z : 0 + m ≡ m = omega arith in ap (λ k. Ok (first_filters g k bs at)) z ∙ h; stop = λ e h. h }
-
 module _ (g : Bool) (bs : List ℕ) (at n : ℕ) (rest : List ℕ) (next : ℕ) (c : Counting g bs at n rest next) where
   pub counting_done : true ≡ eqb (length rest) 0 → Ok (first_filters g n bs at) ≡ filters_in g 8 bs at
   counting_done e = let z : n + 0 ≡ n = omega arith in ap (λ k. Ok (first_filters g k bs at)) (sym z) ∙ c.more 0 (filters_none g (8 - n) rest next e)

@@ -22,9 +22,6 @@ stays_from b c e h = ap not (sym e ∙ h)
 pub goes_from : (b c : Bool) → b ≡ c → b ≡ true → not c ≡ false
 goes_from b c e h = ap not (sym e ∙ h)
 
-pub sifted_none : {T : Type 0} (p : T → Bool) (ws : List T) → Sifted p ws ws 0 0
-sifted_none p ws = record { count = refl; list = refl; behind = omega arith }
-
 module _ {T : Type 0} (p : T → Bool) (ws ys : List T) (k i : ℕ) (x : T) (s : Sifted p ws ys k i) (in-i : i < length ws) (read : x ≡ get_or ys i x) where
   -- the entry that is read is the one that stood there at first
   same : x ≡ get_or ws i x

@@ -9,6 +9,7 @@ pub enum Kind {
 }
 
 // A number that no kind has.
+// A type of its own, as each enum has: the crates don't stand on one another, and an error tells what had no such number.
 #[derive(Clone, Copy, PartialEq, Eq, Debug)]
 pub struct UnknownKind(pub u8);
 

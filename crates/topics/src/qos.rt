@@ -11,6 +11,7 @@ pub enum Qos {
 }
 
 /// A number that no quality of service has.
+// A type of its own, as each enum has: the crates don't stand on one another, and an error tells what had no such number.
 #[derive(Clone, Copy, Debug, PartialEq, Eq)]
 pub struct UnknownQos(pub u8);
 

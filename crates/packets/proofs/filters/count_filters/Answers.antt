@@ -1,10 +1,7 @@
 use Rattle.std.proofs.Common.{arith}
 use Rattle.std.proofs.lemmas.Result.{err_from_is_err_and}
-use Rattle.packets.proofs.Counting.{counting_none, counting_done, counting_end, counting_over, counting_stop, counting_more}
+use Rattle.packets.proofs.Counting.{counting_done, counting_end, counting_stop, counting_more}
 use Rattle.packets.proofs.filters.count_filters.Goals as goal
-
-pub loop-count-init : goal.loop-count-init
-loop-count-init c = counting_none c.args.with_qos c.args.cursor.bytes.now c.args.cursor.at
 
 pub returns-then-is_empty : goal.returns-then-is_empty
 returns-then-is_empty c = record { answer = counting_done _ _ _ _ _ _ c.loop-count.invariant c.if-is_empty.ensures }
@@ -16,11 +13,6 @@ returns-in_err-read_filter c =
 
 pub loop-count-preserved : goal.loop-count-preserved
 loop-count-preserved c = counting_more _ _ _ _ _ _ c.loop-count.invariant (omega arith) c.if-is_empty.ensures _ c.in_ok-read_filter.ensures.answer
-
-pub returns-in_err-end : goal.returns-in_err-end
-returns-in_err-end c =
-    let p = err_from_is_err_and c.from_residual-in_err-end.result c.from_residual-in_err-end.ensures.1 in
-    record { answer = rw (p.1, p.2) (counting_over _ _ _ _ _ _ c.loop-count.invariant _ (omega arith) c.in_err-end.ensures.answer) }
 
 pub returns : goal.returns
 returns c = record { answer = counting_end _ _ _ _ _ _ c.loop-count.invariant _ (omega arith) c.in_ok-end.ensures.answer }

@@ -1,21 +1,15 @@
 use Rattle.std.proofs.Common.{◌≡◌, ℕ, ◌-◌, ◌%◌, ◌<◌, min, Bool, true, false, not, length, ap, ◌∙◌, subst, arith}
 use Rattle.ring.specs.Ring.{round}
 use Rattle.ring.proofs.Waiting.{waiting-length, waiting_fits}
-use Rattle.ring.proofs.Sift.{Sifted, stays_from, goes_from, sifted_none, turn_stays, turn_goes, gone, removed}
+use Rattle.ring.proofs.Sift.{Sifted, stays_from, goes_from, turn_stays, turn_goes, gone, removed}
 use Rattle.ring.proofs.Ring.remove.Goals as goal
 use Rattle.ring.proofs.Ring.remove.Goals.{then-not-goes, else-not-goes}
 
 pub place-requires : goal.place-requires
 place-requires g c = omega (arith, waiting_fits c.args.self.now c.args.memory.now)
 
-pub loop-i-init : goal.loop-i-init
-loop-i-init g c = sifted_none _ _
-
 pub place-at-requires : goal.place-at-requires
 place-at-requires g c = omega (arith, c.loop-i.invariant.behind, waiting_fits c.args.self.now c.args.memory.now)
-
-pub overflow_add-stay : goal.overflow_add-stay
-overflow_add-stay g c = omega (arith, c.loop-i.invariant.behind)
 
 pub loop-i-preserved : goal.loop-i-preserved
 loop-i-preserved g c =
@@ -39,9 +33,6 @@ loop-i-preserved g c =
           let now = turn_goes p first xs ys k i x c.loop-i.auto.memory c.loop-i.invariant inside at c.place.ensures.answer c.index-memory-place.is goes in
           rw (w.memory-is, w.stay-is) now)
     ]
-
-pub overflow_sub-result : goal.overflow_sub-result
-overflow_sub-result g c = omega (arith, c.loop-i.invariant.behind)
 
 pub returns : goal.returns
 returns g c =
