@@ -10,7 +10,7 @@ pub enum State {
 }
 
 /// A number that no state has.
-// A type of its own, as each enum has: the crates don't stand on one another, and an error tells what had no such number.
+// A type of its own, as each enum has: an error tells what had no such number, a state here and no quality of service.
 #[derive(Clone, Copy, Debug, PartialEq, Eq)]
 pub struct UnknownState(pub u8);
 
@@ -22,6 +22,7 @@ pub struct Target {
 }
 
 /// A byte that stands for no target.
+// A type of its own, beside `UnknownState`: here the whole byte is told.
 #[derive(Clone, Copy, Debug, PartialEq, Eq)]
 pub struct UnknownTarget(pub u8);
 

@@ -30,6 +30,7 @@ pub(crate) fn read_connect(mut cursor: Cursor<'_>) -> Result<Packet<'_>, ReadErr
     read_client(cursor)
 }
 
+// Beside `==`, as its clause says it in the words of the definitions.
 fn is_protocol_name(name: &[u8]) -> bool
     ensures answer { result ≡ bytes_eq name.now protocol_name }
 {

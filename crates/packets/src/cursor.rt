@@ -59,6 +59,7 @@ impl<'a> Cursor<'a> {
     }
 
     // Takes the next byte. Apart from `number` and `take`: a step for all three would have to be told how far to go on.
+    // Each call says how far the place goes on: an invariant speaks of one moment only.
     pub(crate) fn byte(&mut self) -> Result<u8, ReadError>
         ensures answer { Takes (byte_in self.old.bytes.now) self.old.bytes.now self.old.at self.new.bytes.now result }
         ensures place { OnOk result (self.new.at ≡ self.old.at + 1) }

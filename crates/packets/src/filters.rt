@@ -49,7 +49,7 @@ fn read_filter<'a>(with_qos: bool, cursor: &mut Cursor<'a>) -> Result<Filter<'a>
     })
 }
 
-// One filter to eight, up to the packet's end.
+// One filter to eight, up to the packet's end. Flag and cursor go on one by one: what is read later stands on the cursor alone.
 pub(crate) fn read_filters(with_qos: bool, cursor: Cursor<'_>) -> Result<Filters<'_>, ReadError>
     ensures answer { told result ≡ some_filters with_qos cursor.entry.bytes.now cursor.entry.at }
 {

@@ -50,7 +50,7 @@ impl Image<'_> {
     }
 
     // Writes the packet into a buffer that has room for it. Rows are put together by such a loop too (crate rows): its three lines
-    // are all that the two share, and a function in a crate below both would be no plainer.
+    // are all that the two share, and a function in a crate below both would be no plainer. A running end: each piece goes behind the one before.
     fn put(self, length: &[u8], out: &mut [u8]) -> usize
         requires room { 1 + len length.now + len (joined self.body.now) ≤ len out.old }
         ensures answer { result ≡ len (self.entry.first ∷ length.now ++ joined self.entry.body.now) }

@@ -120,7 +120,7 @@ fn write_publish<'a>(
     image.write_to(lawful, out)
 }
 
-// The bytes of an identifier, or none where there is none.
+// The bytes of an identifier, or none where there is none. By match: a chain of as_ref, map_or and as_slice says no more.
 fn id_bytes(number: &Option<[u8; 2]>) -> &[u8]
     ensures answer { MatchOption number.now (result.now ≡ []) (λ bytes. result.now ≡ bytes) }
 {
