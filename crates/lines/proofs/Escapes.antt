@@ -1,15 +1,14 @@
 -- Escaped bytes can be told apart again.
-use Rattle.std.proofs.Common.{◌≡◌, ℕ, ◌+◌, ◌-◌, ◌/◌, ◌%◌, ◌^◌, ◌<◌, ◌≤◌, Bool, true, false, cond, eqb, List, [], ◌∷◌, ◌++◌, length, get_or, take, drop, sym, refl, ap, ◌∙◌, subst, codes, append_assoc, arith, lit<, lit≤, length-append, eqb-true}
+use Rattle.std.proofs.Common.{◌≡◌, ℕ, ◌+◌, ◌-◌, ◌/◌, ◌%◌, ◌<◌, ◌≤◌, Bool, true, false, cond, eqb, List, [], ◌∷◌, ◌++◌, length, get_or, take, drop, sym, refl, ap, ◌∙◌, subst, append_assoc, arith, lit<, lit≤, length-append, eqb-true}
 use borrow.Author.Tests.{eqb-false}
 use Rattle.std.proofs.ByRecursion.{All-append}
 use Rattle.std.proofs.lemmas.Bool.Decides.{nat_tests}
 use Rattle.std.proofs.lemmas.List.{append-nil, take_all}
-use Rattle.std.proofs.lemmas.Str.{encode_ascii}
-use Rattle.std.specs.Char.{encode_utf8}
-use Rattle.std.specs.Fmt.{digits, padded_integral, format_spec}
+use Rattle.std.proofs.lemmas.Str.Ascii.{IsAscii-nil, IsAscii-cons}
+use Rattle.std.specs.Str.{IsAscii}
 use Rattle.std.specs.List.{AllByRecursion, flat_map}
 use Rattle.lines.specs.Hex.{digit, byte_hex}
-use Rattle.lines.proofs.Hexes.{front_one, hex_written}
+use Rattle.lines.proofs.Hexes.{front_one, hex_ascii}
 use Rattle.lines.specs.Escape.{plain, escaped_byte, escaped, Bytes, EscapeLaw}
 
 -- a digit is that of one number
@@ -32,12 +31,13 @@ pub other_is : (b : ℕ) → plain b ≡ false → escaped_byte b ≡ 92 ∷ 120
 unfolding escaped_byte
 other_is b e = simp e
 
--- what is written of a byte that stands for itself, and of any other
-pub plain_written : (b : ℕ) → plain b ≡ true → encode_utf8 b ≡ escaped_byte b
-plain_written b e = encode_ascii b (grind (arith, nat_tests)) ∙ sym (plain_is b e)
+ascii_by : (b : ℕ) (v : Bool) → b < 256 → plain b ≡ v → IsAscii (cond v (b ∷ []) (92 ∷ 120 ∷ byte_hex b))
+ascii_by b true h e = IsAscii-cons b [] (grind (arith, nat_tests)) IsAscii-nil
+ascii_by b false h e = IsAscii-cons 92 (120 ∷ byte_hex b) (lit< tt) (IsAscii-cons 120 (byte_hex b) (lit< tt) (hex_ascii b h))
 
-pub code_written : (b : ℕ) → b < 256 → plain b ≡ false → codes "\\x" ++ padded_integral (format_spec 32 0 4 2 (2 ^ 64 - 1)) false [] (digits 16 false b) ≡ escaped_byte b
-code_written b h e = ap (λ l. codes "\\x" ++ l) (hex_written b h) ∙ sym (other_is b e)
+pub escaped_ascii : (b : ℕ) → b < 256 → IsAscii (escaped_byte b)
+unfolding escaped_byte
+escaped_ascii b h = ascii_by b (plain b) h refl
 
 -- two texts that begin with an escaped byte
 Same : ℕ → ℕ → List ℕ → List ℕ → Type 0

@@ -1,13 +1,14 @@
 // Escaped text: bytes 0x21 to 0x7e but the backslash stand for themselves, any other byte is `\xHH` in lower
 // case; no bytes at all are `-`, and a lone `-` is `\x2d`.
-ghost use Rattle.std.specs.Prelude.{◌≡◌, Some, IfOk, string_bytes};
+ghost use Rattle.std.specs.Prelude.{◌≡◌, ◌≤◌, length, Some, IfOk, string_bytes};
 ghost use Rattle.std.specs.List.{flat_map};
 ghost use Rattle.lines.specs.Escape.{plain, escaped_byte, escaped, Undoes, Unescaped, UnitIn, CodeOf, EscapeLaw};
 
 use crate::error::LineError;
-use crate::hex::value_of;
+use crate::hex::{digits, value_of};
 use std::alloc::{AllocError, Global};
 use std::fmt;
+use std::str::from_utf8;
 
 // The bytes as escaped text, or the error that there is no memory for it.
 pub fn escape(heap: Global, bytes: &[u8]) -> Result<String, AllocError>
@@ -60,9 +61,10 @@ impl fmt::Display for Escaped<'_> {
             [] => write!(f, "-"),
             b"-" => write!(f, "\\x2d"),
             bytes => {
-                // As in `Hex`: a `for` and a `write!` are no longer than a call that takes them as a closure.
-                for &byte in bytes {
-                    write!(f, "{}", EscapedByte(byte))?;
+                // As in `Hex`: a `for` and a `write_str` are no longer than a call that takes them as a closure.
+                let mut text = [0; 64];
+                for chunk in bytes.chunks(16) {
+                    f.write_str(escaped_chunk(&mut text, chunk))?;
                 }
                 Ok(())
             }
@@ -70,21 +72,23 @@ impl fmt::Display for Escaped<'_> {
     }
 }
 
-// One byte of an escaped text.
-#[derive(Clone, Copy)]
-struct EscapedByte(u8);
-
-impl fmt::Display for EscapedByte {
-    ghost output = { λ byte. Some (escaped_byte byte.0) };
-
-    fn fmt<W: fmt::Write>(&self, f: &mut fmt::Formatter<W>) -> fmt::Result {
-        let byte = self.0;
+// At most 16 bytes, each escaped, which are put at the front of `text`.
+fn escaped_chunk<'a>(text: &'a mut [u8; 64], bytes: &[u8]) -> &'a str
+    requires { length bytes.now ≤ 16 }
+    ensures answer { result.now ≡ flat_map escaped_byte bytes.now }
+{
+    let mut len = 0;
+    for &byte in bytes {
         if is_plain(byte) {
-            write!(f, "{}", char::from(byte))
+            text[len] = byte;
+            len += 1;
         } else {
-            write!(f, "\\x{byte:02x}")
+            let [high, low] = digits(byte);
+            text[len..len + 4].copy_from_slice(&[b'\\', b'x', high, low]);
+            len += 4;
         }
     }
+    from_utf8(&text[..len]).unwrap()
 }
 
 // The bytes of which each was escaped, one after the other.

@@ -1,10 +1,12 @@
 // Bytes in hexadecimal: two digits each, or `-` for no bytes.
-ghost use Rattle.std.specs.Prelude.{◌≡◌, Some, IfOk, string_bytes};
-ghost use Rattle.lines.specs.Hex.{digit_value, hex_text, pairs_in, hex_in, bytes_read, Read, Below16, HexLaw};
+ghost use Rattle.std.specs.Prelude.{◌≡◌, ◌<◌, ◌≤◌, length, Some, IfOk, string_bytes};
+ghost use Rattle.std.specs.List.{flat_map};
+ghost use Rattle.lines.specs.Hex.{digit, digit_value, byte_hex, hex_text, pairs_in, hex_in, bytes_read, Read, Below16, HexLaw};
 
 use crate::error::LineError;
 use std::alloc::{AllocError, Global};
 use std::fmt;
+use std::str::from_utf8;
 
 // The bytes that a word of hexadecimal digits of either case writes; a word with another character or an odd
 // number of digits is refused.
@@ -65,12 +67,46 @@ impl fmt::Display for Hex<'_> {
         match self.0 {
             [] => write!(f, "-"),
             bytes => {
-                for &byte in bytes {
-                    write!(f, "{byte:02x}")?;
+                // A chunk at a time: a call of the writer costs more than the digits of a byte.
+                let mut text = [0; 64];
+                for chunk in bytes.chunks(32) {
+                    f.write_str(hex_chunk(&mut text, chunk))?;
                 }
                 Ok(())
             }
         }
+    }
+}
+
+// The digits of at most 32 bytes, which are put at the front of `text`.
+fn hex_chunk<'a>(text: &'a mut [u8; 64], bytes: &[u8]) -> &'a str
+    requires { length bytes.now ≤ 32 }
+    ensures answer { result.now ≡ flat_map byte_hex bytes.now }
+{
+    let mut len = 0;
+    for &byte in bytes {
+        text[len..len + 2].copy_from_slice(&digits(byte));
+        len += 2;
+    }
+    from_utf8(&text[..len]).unwrap()
+}
+
+// The two digits of a byte.
+pub(crate) fn digits(byte: u8) -> [u8; 2]
+    ensures answer { result ≡ byte_hex byte }
+{
+    [digit_of(byte / 16), digit_of(byte % 16)]
+}
+
+// The digit of a number below 16.
+fn digit_of(number: u8) -> u8
+    requires { number < 16 }
+    ensures answer { result ≡ digit number }
+{
+    if number < 10 {
+        b'0' + number
+    } else {
+        b'a' + (number - 10)
     }
 }
 
