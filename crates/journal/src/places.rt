@@ -22,7 +22,7 @@ impl Places {
         ensures places { IfOk result (λ p. vec_len p.entries ≡ count) }
         ensures none { IfOk result (λ p. (i : ℕ) → slice_index_or (pointers p.index) i None ≡ None) }
     {
-        let mut entries = Vec::new(heap);
+        let mut entries = Vec::with_capacity(heap, count)?;
         entries.try_resize_with(count, || Entry::new(heap))?;
         let index = Index::new(heap)?;
         Ok(Places { entries, index })

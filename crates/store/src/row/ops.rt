@@ -58,7 +58,8 @@ impl RowBuffer {
         ensures answer { result ≡ write_answer row.now }
         ensures after { held self.new ≡ write_after result (held self.old) row.now }
     {
-        if row.len() > ROW_BYTES {
+        // The capacity is at least 560; tested with it, so that no code that asks for more memory is left.
+        if row.len() > ROW_BYTES.min(self.bytes.capacity()) {
             return Err(Refusal::Bad);
         }
         self.clear();

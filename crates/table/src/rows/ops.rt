@@ -16,7 +16,7 @@ impl Rows {
     pub(crate) fn new(heap: Global) -> Result<Rows, AllocError>
         ensures answer { IfOk result (λ rows. contents rows ≡ replicate 1152 []) }
     {
-        let mut places = Vec::new(heap);
+        let mut places = Vec::with_capacity(heap, MAX_ROWS as usize)?;
         places.try_resize_with(MAX_ROWS as usize, || RowBuffer::new(heap))?;
         Ok(Rows { places })
     }
