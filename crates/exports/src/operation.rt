@@ -69,34 +69,28 @@ impl Operation {
         ensures after { S.Store.disk store.new ≡ disk_after (S.Store.disk store.old) pool.now self }
         ensures buffer { buffer.new ≡ buffer_after (S.Store.disk store.old) buffer.old self }
     {
-        self.call(store, pool, buffer)
-            .unwrap_or_else(refusal_number)
-    }
-
-    // Does it and answers the row's length or the free rows, 0 for done, or the refusal.
-    fn call<S: Store>(self, store: &mut S, pool: &[u8], buffer: &mut [u8]) -> Result<u64, Refusal>
-        ensures answer { length_number result ≡ reply (S.Store.disk store.old) pool.now buffer.old self }
-        ensures after { S.Store.disk store.new ≡ disk_after (S.Store.disk store.old) pool.now self }
-        ensures buffer { buffer.new ≡ buffer_after (S.Store.disk store.old) buffer.old self }
-    {
         match self {
             Operation::Put {
                 kind,
                 number,
                 start,
                 length,
-            } => store
-                .put(kind, number, row_in(pool, start, length))
-                .map(|()| 0),
-            Operation::Remove { kind, number } => store.drop_row(kind, number).map(|()| 0),
+            } => number_of(
+                store
+                    .put(kind, number, row_in(pool, start, length))
+                    .map(|()| 0),
+            ),
+            Operation::Remove { kind, number } => {
+                number_of(store.drop_row(kind, number).map(|()| 0))
+            }
             Operation::Load { kind, number } => {
-                store.load(kind, number, buffer).map(|length| length as u64)
+                number_of(store.load(kind, number, buffer).map(|length| length as u64))
             }
             Operation::Power { writes } => {
                 store.power(writes);
-                Ok(0)
+                0
             }
-            Operation::Free => Ok(store.free() as u64),
+            Operation::Free => store.free() as u64,
         }
     }
 }
@@ -108,6 +102,13 @@ fn row_in(pool: &[u8], start: usize, length: usize) -> &[u8]
     pool.get(start..)
         .and_then(|rest| rest.get(..length))
         .unwrap_or(&[])
+}
+
+// The row's length or the free rows, 0 for done, or the refusal's number. Asked for in each arm, which takes less time than once for all.
+fn number_of(answer: Result<u64, Refusal>) -> u64
+    ensures answer { result ≡ length_number answer }
+{
+    answer.unwrap_or_else(refusal_number)
 }
 
 // 2^32 and the refusal's number, which the C interface alone has.
