@@ -104,7 +104,7 @@ fn row_in(pool: &[u8], start: usize, length: usize) -> &[u8]
         .unwrap_or(&[])
 }
 
-// The row's length or the free rows, 0 for done, or the refusal's number. Asked for in each arm, which takes less time than once for all.
+// The row's length, 0 for done, or the refusal's number. Called in each arm that can be refused: one call behind the `match` was slower.
 fn number_of(answer: Result<u64, Refusal>) -> u64
     ensures answer { result ≡ length_number answer }
 {
